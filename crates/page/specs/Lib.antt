@@ -1,0 +1,4 @@
+-- The form of a page, what a log record does to one, and 64 of them side by side.
+pub mod Page
+pub mod Change
+pub mod Pages

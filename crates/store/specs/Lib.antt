@@ -1,0 +1,2 @@
+-- The public calls, each one definition from everything lent to everything left.
+pub mod Calls

@@ -1,0 +1,108 @@
+-- Document 01, "Steps": the record that a planned step appends, what a record does to the pages, forward and repeated alike, and the
+-- room that steps need. Assumes nothing.
+use Prim.Native.Nat.{ℕ, zero, suc, _+_}
+use mathlib.Core.Bool.{Bool, true, false, not}
+use mathlib.Core.List.{List, [], _∷_}
+use mathlib.Core.Option.{Option, some, none}
+use lib.Dec.{eqb, leb}
+use Rattle.field.specs.Test.{both, pick, when, bind}
+use Rattle.page.specs.Page.{keyOf, toPage, count, number, entries, records, isLeaf}
+use Rattle.page.specs.Change.{emptied, appended, redirected, removed}
+use Rattle.page.specs.Pages.{page, putPage}
+use Rattle.log.specs.Record.{out, into, modify, end, lengthOf, Begin, Rec, LB, LO, LI, LM, LE}
+use Rattle.log.specs.Plan.{Step, takeOut, bringIn, point, close}
+use Rattle.log.specs.Log.{taken}
+
+-- ---- what a record does
+
+-- the page it changes: LO's org, LI's dest, LM's base; none for LB and LE
+unfoldable pub target : Rec → Option ℕ
+target (LB g) = none
+target (LO org dest rs) = some org
+target (LI org dest back rs) = some dest
+target (LM base old new key) = some base
+target (LE unit) = none
+
+-- what the record numbered n does to that page; none is reply 5
+unfoldable pub change : (n : ℕ) → Rec → List ℕ → Option (List ℕ)
+change n (LB g) pg = some pg
+change n (LO org dest rs) pg = emptied n rs pg
+change n (LI org dest back rs) pg = appended n rs pg
+change n (LM base old new key) pg = pick (eqb new 0) (removed n key old pg) (redirected n key old new pg)
+change n (LE unit) pg = some pg
+
+-- the page of w that a record or a step changes, replaced; w itself where there is none
+unfoldable pub changedAt : Option ℕ → (f : List ℕ → Option (List ℕ)) → (w : List ℕ) → Option (List ℕ)
+changedAt none f w = some w
+changedAt (some p) f w = bind (f (page p w)) (λ pg. some (putPage p pg w))
+
+-- the record numbered n applied to the work pages; none is reply 5
+unfoldable pub apply : (n : ℕ) → Rec → (w : List ℕ) → Option (List ℕ)
+apply n r w = changedAt (target r) (change n r) w
+
+-- "repeats each record whose number exceeds the page's"
+unfoldable pub repeat : (n : ℕ) → Rec → (w : List ℕ) → Option (List ℕ)
+repeat n r w = changedAt (target r) (λ pg. pick (leb n (number pg)) (some pg) (change n r pg)) w
+
+-- all these records repeated, the first numbered n
+unfoldable pub repeatAll : (n : ℕ) → List Rec → (w : List ℕ) → Option (List ℕ)
+repeatAll n [] w = some w
+repeatAll n (r ∷ rs) w = bind (repeat n r w) (repeatAll (n + 1) rs)
+
+-- ---- the next record
+
+-- the page that a step changes
+unfoldable pub targetOf : Step → Option ℕ
+targetOf (takeOut org dest) = some org
+targetOf (bringIn org dest back) = some dest
+targetOf (point base old new other) = some base
+targetOf (close unit) = none
+
+unfoldable pub pageOf : Option ℕ → (w : List ℕ) → List ℕ
+pageOf none w = []
+pageOf (some p) w = page p w
+
+-- the key of the LM before; did has the latest first
+unfoldable pub keyBefore : (did : List Rec) → Option ℕ
+keyBefore [] = none
+keyBefore (LB g ∷ did) = none
+keyBefore (LO org dest rs ∷ did) = none
+keyBefore (LI org dest back rs ∷ did) = none
+keyBefore (LM base old new key ∷ did) = some key
+keyBefore (LE unit ∷ did) = none
+
+-- an entry that may be taken: not the one with this key
+unfoldable pub isOther : (skip : Option ℕ) → (key : ℕ) → Bool
+isOther none key = true
+isOther (some k) key = not (eqb key k)
+
+-- "Where several entries point alike, LM takes the lowest": the key of the lowest entry to page p, but for the one to skip
+unfoldable pub lowestTo : (skip : Option ℕ) (p : ℕ) → (es : List (List ℕ)) → Option ℕ
+lowestTo skip p [] = none
+lowestTo skip p (e ∷ es) =
+    let rest = lowestTo skip p es in
+    pick (both (eqb (toPage e) p) (isOther skip (keyOf e))) (some (keyOf e)) rest
+
+-- "for A's under the same base, never the one just changed (the old key of the LM before)"
+unfoldable pub skipped : (other : Bool) → (did : List Rec) → Option ℕ
+skipped other did = pick other (keyBefore did) none
+
+-- the record of a step, given the page pg that it changes and the unit's records so far; none is reply 5
+unfoldable pub nextRec : Step → (did : List Rec) → (pg : List ℕ) → Option Rec
+nextRec (takeOut org dest) did pg = when (isLeaf pg) (LO org dest (records pg))
+nextRec (bringIn org dest back) did pg = some (LI org dest back (taken back did))
+nextRec (point base old new other) did pg = bind (lowestTo (skipped other did) old (entries pg)) (λ k. some (LM base old new k))
+nextRec (close unit) did pg = some (LE unit)
+
+-- ---- room
+
+-- the bytes of a step's record, "an LO to come counted by its work page's bytes 2-3"
+unfoldable pub stepSize : (w : List ℕ) → Step → ℕ
+stepSize w (takeOut org dest) = lengthOf out (count (page org w))
+stepSize w (bringIn org dest back) = lengthOf into 0
+stepSize w (point base old new other) = lengthOf modify 0
+stepSize w (close unit) = lengthOf end 0
+
+unfoldable pub room : (w : List ℕ) → List Step → ℕ
+room w [] = 0
+room w (x ∷ xs) = stepSize w x + room w xs

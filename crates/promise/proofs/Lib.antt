@@ -1,0 +1,3 @@
+-- The rows hold.
+pub mod Computed
+pub mod RowsHold

@@ -1,1 +1,87 @@
-// x
+// Little-endian numbers in lent bytes, runs of zeros, copying, and the paper's three counters.
+ghost use mathlib.Core.Path.{_≡_};
+ghost use Prim.Native.Nat.{ℕ, _+_, _*_, _≤_, _<_};
+ghost use lib.ListN.{length};
+ghost use Rattle.field.specs.Bytes.{put, allZero, le2, le4, bytes2, bytes4};
+
+// The number of a page, of a log record and of a unit: none may stand where another is meant.
+pub struct PageNo(pub u32);
+
+pub struct LogNo(pub u32);
+
+pub struct UnitNo(pub u32);
+
+// The number of two bytes, the lower first.
+pub fn num2(a: u8, b: u8) -> u16
+    ensures { λ r. ⌜ r ≡ a + 256 * b ⌝ }
+{
+    a as u16 + 256 * (b as u16)
+}
+
+// The number of four bytes, the lower first.
+pub fn num4(a: u8, b: u8, c: u8, d: u8) -> u32
+    ensures { λ r. ⌜ r ≡ a + 256 * b + 65536 * c + 16777216 * d ⌝ }
+{
+    a as u32 + 256 * (b as u32) + 65536 * (c as u32) + 16777216 * (d as u32)
+}
+
+// The number in two bytes of s, from the offset i.
+pub fn get2(s: &[u8], i: usize) -> u16
+    requires { ⌜ i + 2 ≤ length (now s) ⌝ }
+    ensures { λ r. ⌜ r ≡ le2 (now (s .entry)) i ⌝ }
+{
+    num2(s[i], s[i + 1])
+}
+
+// The number in four bytes of s, from the offset i.
+pub fn get4(s: &[u8], i: usize) -> u32
+    requires { ⌜ i + 4 ≤ length (now s) ⌝ }
+    ensures { λ r. ⌜ r ≡ le4 (now (s .entry)) i ⌝ }
+{
+    num4(s[i], s[i + 1], s[i + 2], s[i + 3])
+}
+
+// Writes v as two bytes of s, from the offset i.
+pub fn put2(s: &mut [u8], i: usize, v: u16)
+    requires { ⌜ i + 2 ≤ length (now s) ⌝ }
+    ensures { λ _. ⌜ now (s .exit) ≡ put i (bytes2 v) (now (s .entry)) ⌝ }
+{
+    s[i] = (v % 256) as u8;
+    s[i + 1] = (v / 256 % 256) as u8;
+}
+
+// Writes v as four bytes of s, from the offset i.
+pub fn put4(s: &mut [u8], i: usize, v: u32)
+    requires { ⌜ i + 4 ≤ length (now s) ⌝ }
+    ensures { λ _. ⌜ now (s .exit) ≡ put i (bytes4 v) (now (s .entry)) ⌝ }
+{
+    s[i] = (v % 256) as u8;
+    s[i + 1] = (v / 256 % 256) as u8;
+    s[i + 2] = (v / 65536 % 256) as u8;
+    s[i + 3] = (v / 16777216 % 256) as u8;
+}
+
+// Whether every byte of s is zero. No byte ends the loop early, so that many bytes are looked at in one instruction.
+pub fn zeros(s: &[u8]) -> bool
+    ensures { λ r. ⌜ r ≡ allZero (now (s .entry)) ⌝ }
+{
+    let mut seen: u8 = 0;
+    let mut i = 0;
+    while i < s.len() {
+        seen = seen | s[i];
+        i += 1;
+    }
+    seen == 0
+}
+
+// Writes the bytes of rs over s, from the offset at.
+pub fn copy(s: &mut [u8], at: usize, rs: &[u8])
+    requires { ⌜ at + length (now rs) ≤ length (now s) ⌝ }
+    ensures { λ _. ⌜ now (s .exit) ≡ put at (now (rs .entry)) (now (s .entry)) ⌝ }
+{
+    let mut i = 0;
+    while i < rs.len() {
+        s[at + i] = rs[i];
+        i += 1;
+    }
+}

@@ -169,10 +169,11 @@ unfoldable pub expected : (unit : ℕ) → Option Open → (l : List ℕ) → Op
 expected u none l = let g : Begin = readBegin (u + 1) l in when (beginOk g) (LB g)
 expected u (some o) l = plannedFirst (o .todo) (o .did) l
 
--- the record at the front of l, its log number one above the last
+-- the record at the front of l, all of it, its log number one above the last
 unfoldable pub readRec : State → (l : List ℕ) → Option Rec
 readRec s l =
-    bind (expected (s .unit) (s .opened) l) (λ r. when (both (leb (s .number + 1) most4) (starts (encode (s .number + 1) r) l)) r)
+    bind (expected (s .unit) (s .opened) l) (λ r.
+    when (all (leb (s .number + 1) most4 ∷ leb (size r) (length l) ∷ starts (encode (s .number + 1) r) l ∷ [])) r)
 
 -- ---- a log read
 

@@ -1,0 +1,2 @@
+-- Laws about the calls' definitions.
+pub mod Refusals

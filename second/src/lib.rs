@@ -1,0 +1,16 @@
+//! The second program: document 01 written a second time, from the document
+//! alone, over lent buffers of any length. What another program answers can
+//! be compared with it, reply by reply and byte by byte.
+//!
+//! `bytes`, `page`, `log`, `tree`, `unit` and `calls` are the product, lowest
+//! first; `listing` is the program of that name. `shapes`, `chance`, `runs`
+//! and `vectors` make what tests run on.
+
+pub mod bytes;
+pub mod calls;
+pub mod listing;
+pub mod log;
+pub mod page;
+pub mod reply;
+pub mod tree;
+pub mod unit;

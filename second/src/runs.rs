@@ -549,7 +549,8 @@ pub fn random_shape(chance: &mut Chance) -> Vec<BaseShape> {
         let full = shape
             .last()
             .is_none_or(|base| base.leaves.len() == MOST_ENTRIES);
-        let another = shape.len() < BASES.len() && chance.one_in(6);
+        let fits = count - i <= MOST_ENTRIES * (BASES.len() - shape.len());
+        let another = fits && chance.one_in(6);
         if full || another {
             let page = bases[shape.len()];
             let leaves = vec![leaf];

@@ -17,3 +17,4 @@ pub mod runs;
 pub mod state;
 pub mod tree;
 pub mod unit;
+pub mod vectors;

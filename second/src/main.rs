@@ -2,7 +2,7 @@
 //! `second vectors`.
 
 use second::state::{Call, State};
-use second::{listing, runs};
+use second::{listing, runs, vectors};
 use std::io::{self, Read, Write};
 use std::process::ExitCode;
 
@@ -21,6 +21,7 @@ fn main() -> ExitCode {
         ["listing"] => print_listing(),
         ["sample"] => write_out(&sample()),
         ["runs", ref numbers @ ..] if numbers.len() <= 2 => print_runs(numbers),
+        ["vectors"] => write_out(vectors::vectors().as_bytes()),
         _ => Err(USE.to_string()),
     };
     match done {

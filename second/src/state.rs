@@ -3,8 +3,8 @@
 
 use crate::bytes::{page_of_mut, Numbers, LOG_BYTES, PAGES_BYTES, PAGE_COUNT};
 use crate::calls;
-use crate::log::{Log, Record, CHECK_BYTES};
-use crate::page::{Body, Entry, Page, Row, ROW_BYTES};
+use crate::log::{Begin, Log, Record, Type, CHECK_BYTES};
+use crate::page::{Body, Entry, Page, Row, MOST_ROWS, ROW_BYTES};
 
 /// A call with its arguments.
 #[derive(Clone, Copy, PartialEq, Eq, Debug)]
@@ -239,6 +239,38 @@ impl State {
         self.numbers.used += bytes.len() as u32;
     }
 
+    /// Appends moves in log form, whatever the pages hold, until exactly
+    /// `free` bytes are left.
+    pub fn fill_log(&mut self, free: usize) {
+        let log = self.read_log();
+        let mut bytes = LOG_BYTES - log.end() - free;
+        let (mut number, mut unit) = (log.last(), log.unit);
+        // A move of `rows` records takes 132 bytes and 16 for each of them.
+        let fits = |moves: usize, bytes: usize| {
+            let least = 132 * moves;
+            bytes >= least
+                && (bytes - least) % ROW_BYTES == 0
+                && (moves..=MOST_ROWS * moves).contains(&((bytes - least) / ROW_BYTES))
+        };
+        let mut moves = (0..).find(|&moves| fits(moves, bytes)).unwrap_or(0);
+        while moves > 0 {
+            moves -= 1;
+            let most = (1..=MOST_ROWS).rev();
+            let size = |rows: usize| 132 + ROW_BYTES * rows;
+            let rows = most
+                .clone()
+                .find(|&rows| bytes >= size(rows) && fits(moves, bytes - size(rows)))
+                .unwrap_or(1);
+            bytes -= size(rows);
+            unit += 1;
+            for record in a_move(unit, number + 2, rows as u32) {
+                number += 1;
+                self.append(number, &record);
+            }
+        }
+        assert_eq!(self.numbers.used as usize + free, LOG_BYTES);
+    }
+
     /// Makes a call that must be accepted.
     pub fn done(&mut self, call: Call) {
         let answer = call.on(self);
@@ -280,6 +312,42 @@ impl State {
             forced: crate::bytes::get32(&numbers, 4),
         };
     }
+}
+
+/// A whole move from page 8 to 9 with records of keys 1 and up, its out
+/// record under the number `out`.
+fn a_move(unit: u32, out: u32, rows: u32) -> [Record; 5] {
+    let (org, dest) = (8, 9);
+    let value = [0; 10];
+    [
+        Record::Begin(Begin {
+            unit,
+            kind: Type::Move,
+            fill: 0,
+            bases: vec![1],
+            leaves: vec![org],
+            destination: dest,
+        }),
+        Record::Out {
+            org,
+            dest,
+            rows: (1..=rows).map(|key| Row { key, value }).collect(),
+        },
+        Record::In {
+            org,
+            dest,
+            count: rows as u16,
+            out,
+        },
+        Record::Modify {
+            base: 1,
+            old: org,
+            new: dest,
+            old_key: 0,
+            new_key: 0,
+        },
+        Record::End { unit },
+    ]
 }
 
 /// A tree in short: base pages, each with its leaves as page, entry key, keys.

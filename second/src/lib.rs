@@ -1,0 +1,20 @@
+//! The second program: document 01 written a second time, from the document
+//! alone, over lent buffers of any length. What another program answers can
+//! be compared with it, reply by reply and byte by byte.
+//!
+//! `bytes`, `reply`, `page`, `log`, `tree`, `unit` and `calls` are the
+//! product, lowest first; `listing` is the program of that name. `chance`,
+//! `state`, `runs` and `vectors` make what tests run on.
+
+pub mod bytes;
+pub mod calls;
+pub mod chance;
+pub mod listing;
+pub mod log;
+pub mod page;
+pub mod reply;
+pub mod runs;
+pub mod state;
+pub mod tree;
+pub mod unit;
+pub mod vectors;

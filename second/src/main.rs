@@ -1,0 +1,66 @@
+//! The programs: `second listing`, `second sample`, `second runs` and
+//! `second vectors`.
+
+use second::state::{Call, State};
+use second::{listing, runs, vectors};
+use std::io::{self, Read, Write};
+use std::process::ExitCode;
+
+const USE: &str = "second listing            lists a store and a log read from standard input
+second sample             writes a sample store and log
+second runs [COUNT] [SEED] makes random runs with cuts
+second vectors            prints calls with all that they leave";
+
+/// Runs that `second runs` makes where no count is given.
+const USUAL_RUNS: u64 = 20_000;
+
+fn main() -> ExitCode {
+    let words: Vec<String> = std::env::args().skip(1).collect();
+    let words: Vec<&str> = words.iter().map(String::as_str).collect();
+    let done = match words[..] {
+        ["listing"] => print_listing(),
+        ["sample"] => write_out(&sample()),
+        ["runs", ref numbers @ ..] if numbers.len() <= 2 => print_runs(numbers),
+        ["vectors"] => write_out(vectors::vectors().as_bytes()),
+        _ => Err(USE.to_string()),
+    };
+    match done {
+        Ok(()) => ExitCode::SUCCESS,
+        Err(why) => {
+            eprintln!("{why}");
+            ExitCode::FAILURE
+        }
+    }
+}
+
+fn write_out(bytes: &[u8]) -> Result<(), String> {
+    io::stdout().write_all(bytes).map_err(|why| why.to_string())
+}
+
+fn print_listing() -> Result<(), String> {
+    let mut image = Vec::new();
+    let read = io::stdin().read_to_end(&mut image);
+    read.map_err(|why| why.to_string())?;
+    write_out(listing::listing(&image).as_bytes())
+}
+
+/// Store then log after row 5 of "Numbers to try", every page flushed.
+fn sample() -> Vec<u8> {
+    let mut state = State::built(&[10, 20, 30, 40, 50, 60], 2, 30);
+    state.done(Call::BeginCompact { fill: 4 });
+    state.finish();
+    state.done(Call::BeginOrder);
+    state.finish();
+    state.flush_all();
+    [state.store, state.log].concat()
+}
+
+fn print_runs(numbers: &[&str]) -> Result<(), String> {
+    let number = |at: usize, usual: u64| match numbers.get(at) {
+        Some(word) => word.parse().map_err(|_| USE.to_string()),
+        None => Ok(usual),
+    };
+    let (count, seed) = (number(0, USUAL_RUNS)?, number(1, 1)?);
+    let counts = runs::runs(count, seed, &Call::on)?;
+    write_out(format!("{counts}\n").as_bytes())
+}

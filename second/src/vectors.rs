@@ -57,6 +57,7 @@ pub fn cases() -> Vec<Case> {
     cases.checkpoints();
     cases.flushes();
     cases.lengths();
+    cases.first_tests();
     cases.random();
     cases.0
 }
@@ -451,6 +452,11 @@ impl Cases {
         ordered.flush_all();
         self.then("lk-ended", keep, &mut ordered);
         self.add("lk-ended", all, &ordered);
+        let mut longer = State::built(&[10, 20, 30, 40, 50, 60, 70, 80], 2, 30);
+        longer.done(four);
+        longer.finish();
+        self.add("lk-ended", four, &longer);
+        self.add("lk-ended", all, &longer);
         // Not ended: the unit is open, and it counts once a recovery ends it.
         let open = stepped(&begun, 3);
         self.add("lk-ended", all, &open);
@@ -505,6 +511,11 @@ impl Cases {
             let mut state = row_eight();
             state.fill_log(free);
             self.add(label, Call::BeginOrder, &state);
+        }
+        for (label, free) in [("room-exact", 268), ("room-less", 264)] {
+            let mut state = row_nine();
+            state.fill_log(free);
+            self.add(label, four, &state);
         }
         let mut exact = row_one();
         exact.fill_log(164);
@@ -591,6 +602,8 @@ impl Cases {
         let clear = Call::Checkpoint { clear: true };
         self.add("number-last", clear, &at(&one, LAST - 1, LAST));
         self.add("number-past", clear, &at(&one, LAST, 3));
+        let keep = Call::Checkpoint { clear: false };
+        self.add("number-past", keep, &at(&one, LAST, LAST));
         // The number after the last is none at all.
         let wrapped = append(&at(&one, LAST, 0), &begin(1));
         self.add("number-past", Call::Force, &wrapped);
@@ -1422,6 +1435,105 @@ impl Cases {
             none.log.clear();
             self.add("length", call, &none);
         }
+    }
+
+    /// Two tests that both fail: the one that comes first gives the reply.
+    fn first_tests(&mut self) {
+        let one = row_one();
+        let open = after(&one, Call::BeginCompact { fill: 4 });
+        let begins = [Call::BeginCompact { fill: 4 }, Call::BeginOrder];
+        let broken = |state: &State| {
+            let mut state = state.clone();
+            state.work[PAGES_BYTES - 1] = 1;
+            state.store[PAGES_BYTES - 1] = 1;
+            state
+        };
+        let unpointed = |state: &State| {
+            let mut state = state.clone();
+            put_page(&mut state.work, 62, 0, Body::Leaf(vec![row(70)]));
+            put_page(&mut state.store, 62, 0, Body::Leaf(vec![row(70)]));
+            state
+        };
+        let misfit = |state: &State| {
+            let mut state = state.clone();
+            put_page(&mut state.work, 9, 0, Body::Empty);
+            put_page(&mut state.store, 9, 0, Body::Empty);
+            state
+        };
+        let ahead = |state: &State| {
+            let mut state = state.clone();
+            put32(page_of_mut(&mut state.store, 63), 4, LAST);
+            state
+        };
+        let tail = |state: &State| {
+            let mut state = state.clone();
+            state.log[LOG_BYTES - 1] = 1;
+            state
+        };
+        let long = |state: &State| {
+            let mut state = state.clone();
+            state.log.push(0);
+            state
+        };
+        let sixteen = Call::BeginCompact { fill: 16 };
+        self.add("first-test", sixteen, &tail(&long(&one)));
+        self.add("first-test", sixteen, &tail(&one));
+        self.add("first-test", sixteen, &broken(&open));
+        for begin in begins {
+            self.add("first-test", begin, &tail(&broken(&open)));
+            self.add("first-test", begin, &open);
+            self.add("first-test", begin, &broken(&open));
+            self.add("first-test", begin, &broken(&unpointed(&one)));
+            let mut settled = State::built(&[10], 1, 1);
+            settled.set_check(LAST, LAST, None);
+            self.add("first-test", begin, &settled);
+            self.add("first-test", begin, &unpointed(&settled));
+        }
+        self.add("first-test", Call::Step, &tail(&broken(&one)));
+        self.add("first-test", Call::Step, &broken(&one));
+        let mut late = one.clone();
+        late.set_check(LAST - 1, 6, None);
+        let late = append(&late, &[compact(7, 1, &[8, 9], 8)]);
+        self.add("first-test", Call::Step, &misfit(&late));
+        // Page 10 is to come and far too large, and the number would pass.
+        let mut raw = one.clone();
+        raw.set_check(LAST - 1, 6, None);
+        let mut raw = append(&raw, &[compact(7, 1, &[8, 9, 10], 8)]);
+        put16(page_of_mut(&mut raw.work, 10), 2, 600);
+        self.add("first-test", Call::Step, &raw);
+        self.add("first-test", Call::Step, &misfit(&raw));
+        page_of_mut(&mut raw.work, 9)[8] = 1;
+        self.add("first-test", Call::Step, &raw);
+        self.add("first-test", Call::Recover, &long(&tail(&open)));
+        self.add("first-test", Call::Recover, &tail(&broken(&open)));
+        self.add("first-test", Call::Recover, &broken(&ahead(&open)));
+        self.add("first-test", Call::Recover, &ahead(&misfit(&open)));
+        self.add("first-test", Call::Recover, &misfit(&late));
+        self.add("first-test", Call::Recover, &unpointed(&late));
+        self.add("first-test", Call::Flush { page: 64 }, &tail(&one));
+        for clear in [true, false] {
+            let call = Call::Checkpoint { clear };
+            self.add("first-test", call, &tail(&open));
+            self.add("first-test", call, &stepped(&open, 1));
+        }
+        let mut last = one.clone();
+        last.set_check(LAST, 0, None);
+        last.store[99] = 9;
+        let keep = Call::Checkpoint { clear: false };
+        self.add("first-test", keep, &last);
+        let mut no_tree = open.clone();
+        no_tree.work.fill(0);
+        self.add("first-test", Call::Find { key: 10 }, &no_tree);
+        self.add("first-test", ALL, &no_tree);
+        self.add("first-test", ALL, &broken(&unpointed(&one)));
+        let mut records = State::zero();
+        records.bytes = record_bytes(&(1..=8).collect::<Vec<u32>>());
+        records.bytes[0] = 0;
+        self.add("first-test", Call::Build { f: 1, g: 1 }, &records);
+        self.add("first-test", Call::Build { f: 0, g: 1 }, &records);
+        records.bytes.pop();
+        self.add("first-test", Call::Build { f: 1, g: 1 }, &records);
+        self.add("first-test", Call::Build { f: 0, g: 1 }, &long(&records));
     }
 
     /// Calls on small random trees after random calls.

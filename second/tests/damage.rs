@@ -1,0 +1,451 @@
+//! Damaged input. The plan:
+//!
+//! 1. for every reply of every call's "Order of tests" one state made by hand
+//!    that must give just this reply;
+//! 2. the same states with a later test failing too: the earlier one wins;
+//! 3. random damage to states of small runs: no call may panic, give a reply
+//!    that is not in its list, or change anything when it refuses;
+//! 4. the pairs of call and reply met must be all pairs there are.
+
+use second::bytes::{page_of_mut, put32, LOG_BYTES, PAGES_BYTES, PAGE_COUNT};
+use second::chance::Chance;
+use second::log::{Begin, Record, Type};
+use second::page::Body;
+use second::runs::random_shape;
+use second::state::{put_page, record_bytes, row, shape, Call, State, Values};
+use std::collections::BTreeSet;
+
+/// The replies of each call, in the order of its tests.
+const ORDER: [(&str, &[u8]); 10] = [
+    ("build", &[1, 12, 16, 17, 0]),
+    ("recover", &[1, 2, 3, 4, 5, 6, 7, 8, 0]),
+    ("begin_compact", &[1, 2, 12, 9, 3, 8, 11, 6, 7, 0]),
+    ("begin_order", &[1, 2, 9, 3, 8, 11, 6, 7, 0]),
+    ("step", &[1, 2, 10, 3, 5, 6, 7, 0]),
+    ("flush", &[1, 2, 12, 13, 0]),
+    ("force", &[1, 2, 0]),
+    ("checkpoint", &[1, 2, 9, 14, 7, 0]),
+    ("find", &[1, 2, 9, 3, 15, 0]),
+    ("list", &[1, 2, 9, 3, 8, 0]),
+];
+
+const LAST: u32 = u32::MAX;
+const COMPACT: Call = Call::BeginCompact { fill: 4 };
+const TOO_FULL: Call = Call::BeginCompact { fill: 16 };
+const CHECKPOINT: Call = Call::Checkpoint { clear: false };
+const BUILD: Call = Call::Build { f: 15, g: 30 };
+const ALL: Call = Call::List { low: 0, high: LAST };
+const FIND: Call = Call::Find { key: 10 };
+
+type Pairs = BTreeSet<(&'static str, u8)>;
+
+fn every_pair() -> Pairs {
+    let of = |(name, replies): (&'static str, &'static [u8])| {
+        replies.iter().map(move |&reply| (name, reply))
+    };
+    ORDER.into_iter().flat_map(of).collect()
+}
+
+/// Makes the call and tests what holds of every refusal.
+fn make(call: Call, state: &State, seed: &str) -> u8 {
+    let mut after = state.clone();
+    let answer = call.on(&mut after);
+    let replies = ORDER.iter().find(|(name, _)| *name == call.name());
+    let known = replies.is_some_and(|(_, replies)| replies.contains(&answer.reply));
+    assert!(known, "{seed}: {call:?} gave {answer:?}");
+    if answer.reply != 0 {
+        let mut same = state.clone();
+        if call == Call::Recover && answer.reply != 1 {
+            same.work.fill(0);
+        }
+        assert!(after == same, "{seed}: {call:?} gave {answer:?}, changed");
+        let none = match answer.values {
+            Values::Nothing => true,
+            Values::Count(count) => count == 0,
+            Values::Value(value) => value == [0; 10],
+            Values::Listed(count, more) => count == 0 && !more,
+        };
+        assert!(none, "{seed}: {call:?} gave {answer:?}");
+    }
+    answer.reply
+}
+
+fn row_one() -> State {
+    State::built(&[10, 20, 30, 40, 50, 60], 2, 30)
+}
+
+/// Leaf (10, 20) on 9 and (30) on 8: both begins find a unit.
+fn crossed() -> State {
+    let tree = shape(&[(1, &[(9, 0, &[10, 20]), (8, 30, &[30])])]);
+    State::made(&tree, 1, 0, None)
+}
+
+/// One leaf in its place: neither begin finds a unit.
+fn settled() -> State {
+    State::built(&[10, 20], 2, 30)
+}
+
+fn begun() -> State {
+    let mut state = row_one();
+    state.done(COMPACT);
+    state
+}
+
+fn change(state: &State, change: impl Fn(&mut State)) -> State {
+    let mut state = state.clone();
+    change(&mut state);
+    state
+}
+
+fn bad_log(state: &mut State) {
+    state.log[LOG_BYTES - 1] = 1;
+}
+
+fn bad_page(state: &mut State) {
+    state.work[PAGES_BYTES - 1] = 1;
+    state.store[PAGES_BYTES - 1] = 1;
+}
+
+fn bad_tree(state: &mut State) {
+    for pages in [&mut state.work, &mut state.store] {
+        put_page(pages, 62, 0, Body::Leaf(vec![row(70)]));
+    }
+}
+
+fn bad_length(state: &mut State) {
+    state.log.push(0);
+}
+
+fn records(state: &mut State, keys: &[u32]) {
+    state.bytes = record_bytes(keys);
+}
+
+/// A compact of 9 into 8 begun at the end of a log with `free` bytes left.
+fn begun_in(free: usize, check: u32) -> State {
+    let mut state = row_one();
+    state.set_check(check, 0, None);
+    state.fill_log(free + 44);
+    let log = state.read_log();
+    let unit = log.unit + 1;
+    let begin = Begin {
+        unit,
+        kind: Type::Compact,
+        fill: 4,
+        bases: vec![1],
+        leaves: vec![8, 9],
+        destination: 8,
+    };
+    state.append(log.last() + 1, &Record::Begin(begin));
+    for place in 0..PAGE_COUNT as u16 {
+        put32(page_of_mut(&mut state.store, place), 4, log.last());
+    }
+    state
+}
+
+/// A compact begun with these numbers at its check record.
+fn begun_at(check: u32) -> State {
+    let mut state = row_one();
+    state.set_check(check, 0, None);
+    let begin = Begin {
+        unit: 1,
+        kind: Type::Compact,
+        fill: 4,
+        bases: vec![1],
+        leaves: vec![8, 9],
+        destination: 8,
+    };
+    state.append(check + 1, &Record::Begin(begin));
+    state
+}
+
+fn by_hand() -> Vec<(Call, u8, State)> {
+    let one = row_one();
+    let open = begun();
+    let misfit = |state: &mut State| {
+        put_page(&mut state.work, 9, 0, Body::Empty);
+        put_page(&mut state.store, 9, 0, Body::Empty);
+    };
+    let full = |state: &State| {
+        let mut state = state.clone();
+        state.fill_log(100);
+        state
+    };
+    let at = |state: &State, number: u32, unit: u32| {
+        let mut state = state.clone();
+        state.set_check(number, unit, None);
+        state
+    };
+    let differs = |state: &mut State| state.store[300] ^= 1;
+    let zero = State::zero();
+    let many: Vec<u32> = (1..=841).collect();
+    let mut finished = open.clone();
+    finished.finish();
+    let mut cases = vec![
+        (BUILD, 0, one.clone()),
+        (BUILD, 1, change(&one, bad_length)),
+        (Call::Build { f: 0, g: 1 }, 12, one.clone()),
+        (Call::Build { f: 1, g: 31 }, 12, one.clone()),
+        (BUILD, 12, change(&one, |s| s.bytes = vec![0; 17])),
+        (BUILD, 16, change(&one, |s| s.bytes = vec![0; 16])),
+        (BUILD, 16, change(&zero, |s| records(s, &[2, 2]))),
+        (BUILD, 17, change(&zero, |s| records(s, &many))),
+        (Call::Build { f: 0, g: 1 }, 1, change(&one, bad_length)),
+        (
+            BUILD,
+            16,
+            change(&zero, |s| {
+                records(s, &many);
+                s.bytes[0] = 0;
+            }),
+        ),
+        (Call::Recover, 0, open.clone()),
+        (Call::Recover, 1, change(&open, bad_length)),
+        (Call::Recover, 2, change(&open, bad_log)),
+        (Call::Recover, 3, change(&open, bad_page)),
+        (Call::Recover, 4, change(&open, |s| s.store[256 + 4] = 9)),
+        (Call::Recover, 5, change(&open, misfit)),
+        (Call::Recover, 6, begun_in(116, 1)),
+        (Call::Recover, 0, begun_in(120, 1)),
+        (Call::Recover, 7, begun_at(LAST - 4)),
+        (Call::Recover, 0, begun_at(LAST - 5)),
+        (Call::Recover, 8, change(&open, bad_tree)),
+        (Call::Recover, 2, change(&change(&open, bad_log), bad_page)),
+        (
+            Call::Recover,
+            3,
+            change(&change(&open, bad_page), |s| s.store[260] = 9),
+        ),
+        (
+            Call::Recover,
+            4,
+            change(&change(&open, misfit), |s| s.store[260] = 9),
+        ),
+        (Call::Recover, 5, change(&begun_in(116, 1), misfit)),
+        (Call::Recover, 6, begun_in(116, LAST - 111)),
+        (Call::Recover, 7, change(&begun_at(LAST - 4), bad_tree)),
+        (Call::Step, 0, open.clone()),
+        (Call::Step, 10, one.clone()),
+        (Call::Step, 3, change(&open, |s| s.work[9 * 256 + 8] = 1)),
+        (Call::Step, 5, change(&open, misfit)),
+        (Call::Step, 6, begun_in(116, 1)),
+        (Call::Step, 0, begun_in(120, 1)),
+        (Call::Step, 7, begun_at(LAST - 1)),
+        (Call::Step, 0, begun_at(LAST - 2)),
+        (Call::Step, 2, change(&one, bad_log)),
+        (
+            Call::Step,
+            3,
+            change(&begun_in(116, 1), |s| s.work[9 * 256 + 8] = 1),
+        ),
+        (Call::Step, 5, change(&begun_in(116, 1), misfit)),
+        (Call::Step, 5, change(&begun_at(LAST - 1), misfit)),
+        (Call::Flush { page: 63 }, 0, one.clone()),
+        (Call::Flush { page: 64 }, 12, one.clone()),
+        (
+            Call::Flush { page: 9 },
+            13,
+            change(&open, |s| s.done(Call::Step)),
+        ),
+        (Call::Flush { page: 64 }, 2, change(&one, bad_log)),
+        (Call::Force, 0, one.clone()),
+        (CHECKPOINT, 0, one.clone()),
+        (CHECKPOINT, 9, open.clone()),
+        (CHECKPOINT, 14, change(&one, differs)),
+        (CHECKPOINT, 7, at(&one, LAST, 0)),
+        (CHECKPOINT, 0, at(&one, LAST - 1, 0)),
+        (CHECKPOINT, 9, change(&open, differs)),
+        (CHECKPOINT, 14, change(&at(&one, LAST, 0), differs)),
+        (FIND, 0, one.clone()),
+        (FIND, 9, change(&open, |s| s.work.fill(0))),
+        (FIND, 3, change(&one, |s| s.work[8 * 256] = 0)),
+        (Call::Find { key: 11 }, 15, change(&one, bad_page)),
+        (ALL, 0, one.clone()),
+        (ALL, 9, change(&open, bad_page)),
+        (ALL, 3, change(&change(&one, bad_page), bad_tree)),
+        (ALL, 8, change(&one, bad_tree)),
+        (TOO_FULL, 2, change(&one, bad_log)),
+        (TOO_FULL, 12, change(&open, bad_page)),
+    ];
+    for begin in [Call::BeginCompact { fill: 0 }, Call::BeginOrder] {
+        let tree = crossed();
+        let need: usize = if begin == Call::BeginOrder { 252 } else { 148 };
+        let records: u32 = if begin == Call::BeginOrder { 8 } else { 5 };
+        let room = |free: usize| change(&tree, |state| state.fill_log(free));
+        cases.extend([
+            (begin, 0, tree.clone()),
+            (begin, 9, change(&open, bad_page)),
+            (begin, 3, change(&change(&tree, bad_page), bad_tree)),
+            (begin, 8, full(&change(&tree, bad_tree))),
+            (begin, 11, full(&settled())),
+            (begin, 11, at(&settled(), LAST, LAST)),
+            (begin, 0, room(need)),
+            (begin, 6, room(need - 4)),
+            (begin, 0, at(&tree, LAST - records, LAST - 1)),
+            (begin, 7, at(&tree, LAST - records + 1, 0)),
+            (begin, 7, at(&tree, 1, LAST)),
+            (begin, 6, {
+                let mut tree = at(&tree, LAST - 126, 0);
+                tree.fill_log(100);
+                tree
+            }),
+        ]);
+    }
+    for call in [TOO_FULL, COMPACT, Call::BeginOrder, Call::Step, FIND, ALL] {
+        cases.push((call, 1, change(&change(&one, bad_log), |s| s.work.clear())));
+        cases.push((call, 1, change(&one, bad_length)));
+    }
+    for call in [Call::Flush { page: 64 }, CHECKPOINT] {
+        cases.push((call, 1, change(&one, |s| s.store.truncate(1))));
+    }
+    cases.push((Call::Force, 1, change(&change(&one, bad_log), bad_length)));
+    for call in [
+        COMPACT,
+        Call::BeginOrder,
+        Call::Step,
+        Call::Flush { page: 1 },
+        Call::Force,
+        CHECKPOINT,
+        FIND,
+        ALL,
+    ] {
+        cases.push((call, 2, change(&open, bad_log)));
+        cases.push((call, 2, change(&open, |s| s.numbers.used -= 4)));
+        cases.push((call, 2, change(&finished, |s| s.numbers.used = 172)));
+        cases.push((call, 2, change(&open, |s| s.numbers.forced = 0)));
+        cases.push((call, 2, change(&open, |s| s.numbers.forced = 28)));
+        cases.push((call, 2, change(&one, |s| s.numbers.forced = 68)));
+    }
+    cases
+}
+
+/// A small state after some random calls.
+fn random_state(chance: &mut Chance) -> State {
+    let tree = random_shape(chance);
+    let number = match chance.within(1, 4) {
+        1 => LAST - chance.within(0, 30) as u32,
+        _ => chance.within(0, 50) as u32,
+    };
+    let mut state = State::made(&tree, number, chance.within(0, 9) as u32, None);
+    if chance.one_in(4) {
+        state.set_check(number, LAST - chance.within(0, 3) as u32, Some(3));
+    }
+    if chance.one_in(6) {
+        let free = 4 * chance.within(20, 200) as usize;
+        if number < 1000 && state.read_log().unit < 1000 {
+            state.fill_log(free);
+        }
+    }
+    for _ in 0..chance.within(0, 20) {
+        let call = match chance.within(1, 6) {
+            1 => Call::BeginCompact { fill: 0 },
+            2 => Call::BeginOrder,
+            3 => Call::Force,
+            _ => Call::Step,
+        };
+        call.on(&mut state);
+    }
+    if chance.one_in(3) {
+        Call::Force.on(&mut state);
+        for page in 0..PAGE_COUNT as u32 {
+            Call::Flush { page }.on(&mut state);
+        }
+    }
+    state
+}
+
+/// Changes some bytes, most of them where something stands.
+fn damage(chance: &mut Chance, bytes: &mut [u8], used: usize) {
+    for _ in 0..chance.within(1, 2) {
+        let most = if chance.one_in(5) { bytes.len() } else { used };
+        let at = chance.within(0, most as u64 - 1) as usize;
+        bytes[at] = match chance.within(1, 4) {
+            1 => chance.next() as u8,
+            2 => bytes[at].wrapping_add(1),
+            3 => bytes[at].wrapping_sub(1),
+            _ => 0,
+        };
+    }
+}
+
+fn damage_page(chance: &mut Chance, pages: &mut [u8]) {
+    let place = chance.within(0, 13) as u16;
+    damage(chance, page_of_mut(pages, place), 64);
+}
+
+fn any_call(chance: &mut Chance) -> Call {
+    let number = match chance.within(1, 3) {
+        1 => chance.next() as u32,
+        _ => chance.within(0, 66) as u32,
+    };
+    let other = chance.within(0, 66) as u32;
+    match chance.within(1, 16) {
+        1 => Call::Build {
+            f: number,
+            g: other,
+        },
+        2..=4 => Call::Recover,
+        5..=6 => Call::BeginCompact { fill: other % 17 },
+        7..=8 => Call::BeginOrder,
+        9..=11 => Call::Step,
+        12 => Call::Flush { page: number },
+        13 => Call::Force,
+        14 => Call::Checkpoint { clear: true },
+        15 => Call::Find { key: number },
+        _ => Call::List {
+            low: number,
+            high: other,
+        },
+    }
+}
+
+#[test]
+fn every_reply_of_every_call_is_met() {
+    let mut met = Pairs::new();
+    let cases = by_hand();
+    for (i, (call, expected, state)) in cases.iter().enumerate() {
+        let reply = make(*call, state, "by hand");
+        assert_eq!(reply, *expected, "case {i}: {call:?}");
+        met.insert((call.name(), reply));
+    }
+    assert_eq!(met, every_pair());
+    println!(
+        "{} cases, {} pairs of call and reply",
+        cases.len(),
+        met.len()
+    );
+}
+
+#[test]
+fn random_damage_is_refused_or_does_no_harm() {
+    let mut met = Pairs::new();
+    let mut calls = 0;
+    for seed in 1..=3000 {
+        let mut chance = Chance::new(seed);
+        let mut state = random_state(&mut chance);
+        let used = state.numbers.used as usize;
+        for _ in 0..12 {
+            let call = any_call(&mut chance);
+            let mut lent = state.clone();
+            lent.bytes = vec![0; chance.within(0, 40) as usize];
+            match chance.within(1, 8) {
+                1..=2 => damage_page(&mut chance, &mut lent.work),
+                3 => damage_page(&mut chance, &mut lent.store),
+                4..=5 => damage(&mut chance, &mut lent.log, used),
+                6 => lent.numbers.forced = chance.within(0, 300) as u32,
+                7 => lent.log.truncate(chance.within(0, 8192) as usize),
+                _ => chance.fill(&mut lent.work),
+            }
+            let reply = make(call, &lent, &format!("seed {seed}"));
+            met.insert((call.name(), reply));
+            calls += 1;
+            // Damage that was not seen stays for the calls to come.
+            if reply == 0 {
+                call.on(&mut lent);
+                state = lent;
+            }
+        }
+    }
+    assert!(met.is_subset(&every_pair()));
+    assert!(met.len() > 50, "only {} pairs", met.len());
+    println!("{calls} calls, {} pairs of call and reply", met.len());
+}

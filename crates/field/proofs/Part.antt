@@ -249,6 +249,27 @@ copy-all! d at rs i s e h k =
     let q : i ≡ length rs = omega arith in
     rw (e, q, take-all (length rs) rs (omega arith)) (append-assoc (take at d) rs (drop (at + length rs) d))
 
+-- the same where the bytes copied are the list's own, from an offset no lower: no byte is read after it was written
+pub shift-more! : (d : List ℕ) (at from n : ℕ) (i : ℕ) (s : List ℕ) → s ≡ paste d at (part from n d) i → at ≤ from → from + n ≤ length d → i < n
+    → set s (at + i) (getD s (from + i) 0) ≡ paste d at (part from n d) (i + 1)
+unfolding put
+shift-more! d at from n i s e low h k =
+    let rs : List ℕ = part from n d in
+    let lr : length rs ≡ n = length-part from n d h in
+    let li : length (take i rs) ≡ i = length-take-le i rs (omega arith) in
+    let q : s ≡ put at (take i rs) d = e ∙ rw li (append-assoc (take at d) (take i rs) (drop (at + i) d)) in
+    let v : getD s (from + i) 0 ≡ getD rs i 0 =
+    ap (λ (x : List ℕ). getD x (from + i) 0) q
+    ∙ getD-put-after at (take i rs) d (from + i) (omega arith) (omega arith)
+    ∙ sym (getD-part from n d i k) in
+    rw v (copy-more! d at rs i s e (omega arith) (omega arith))
+
+pub shift-all! : (d : List ℕ) (at from n : ℕ) (i : ℕ) (s : List ℕ) → s ≡ paste d at (part from n d) i → from + n ≤ length d → i ≤ n → n ≤ i
+    → s ≡ put at (part from n d) d
+shift-all! d at from n i s e h k m =
+    let lr : length (part from n d) ≡ n = length-part from n d h in
+    copy-all! d at (part from n d) i s e (omega arith) (omega arith)
+
 pub length-set-of! : (d : List ℕ) (i v : ℕ) (s : List ℕ) → length s ≡ length d → length (set s i v) ≡ length d
 length-set-of! d i v s e = length-set s i v ∙ e
 

@@ -8,7 +8,7 @@ use native.Mathlib.Omega.{arith}
 use mathlib.Core.Path.{_≡_, refl, sym, ap, _∙_, subst}
 use mathlib.Core.Logic.{_⊎_, ⊎-elim}
 use mathlib.Core.List.{List, [], _∷_, _++_, append-assoc}
-use lib.ListN.{length, take, drop, getD, set, length-set, length-append, length-take, length-drop, List·getD-append}
+use lib.ListN.{length, take, drop, getD, set, take-append-drop, length-set, length-append, length-take, length-drop, List·getD-append}
 use lib.Seq.{paste, paste-zero, paste-suc, take-all, sets, sets-eq, ext-getD, drop-drop, length-take-le, getD-append-add, getD-take, getD-drop, take-add, take-length, take-append-le, drop-append-le, take-append-add, drop-append-add, take-at, drop-at}
 use borrow.Rule.Slice.PartMut.{putMid}
 use Rattle.field.specs.Bytes.{part, put}
@@ -49,6 +49,11 @@ part-part o n a m l h k =
 pub part-add : (o n m : ℕ) (l : List ℕ) → part o (n + m) l ≡ part o n l ++ part (o + n) m l
 unfolding part
 part-add o n m l = take-add n m (drop o l) ∙ rw (drop-drop n o l)
+
+-- what follows an offset is a part and what follows that
+pub drop-cut : (o n : ℕ) (l : List ℕ) → drop o l ≡ part o n l ++ drop (o + n) l
+unfolding part
+drop-cut o n l = sym (rw (← drop-drop n o l) (take-append-drop n (drop o l)))
 
 -- a part of a ++ l within a, behind a, and a itself
 pub part-within : (a l : List ℕ) (o n : ℕ) → o + n ≤ length a → part o n (a ++ l) ≡ part o n a
@@ -243,6 +248,27 @@ unfolding put
 copy-all! d at rs i s e h k =
     let q : i ≡ length rs = omega arith in
     rw (e, q, take-all (length rs) rs (omega arith)) (append-assoc (take at d) rs (drop (at + length rs) d))
+
+-- the same where the bytes copied are the list's own, from an offset no lower: no byte is read after it was written
+pub shift-more! : (d : List ℕ) (at from n : ℕ) (i : ℕ) (s : List ℕ) → s ≡ paste d at (part from n d) i → at ≤ from → from + n ≤ length d → i < n
+    → set s (at + i) (getD s (from + i) 0) ≡ paste d at (part from n d) (i + 1)
+unfolding put
+shift-more! d at from n i s e low h k =
+    let rs : List ℕ = part from n d in
+    let lr : length rs ≡ n = length-part from n d h in
+    let li : length (take i rs) ≡ i = length-take-le i rs (omega arith) in
+    let q : s ≡ put at (take i rs) d = e ∙ rw li (append-assoc (take at d) (take i rs) (drop (at + i) d)) in
+    let v : getD s (from + i) 0 ≡ getD rs i 0 =
+    ap (λ (x : List ℕ). getD x (from + i) 0) q
+    ∙ getD-put-after at (take i rs) d (from + i) (omega arith) (omega arith)
+    ∙ sym (getD-part from n d i k) in
+    rw v (copy-more! d at rs i s e (omega arith) (omega arith))
+
+pub shift-all! : (d : List ℕ) (at from n : ℕ) (i : ℕ) (s : List ℕ) → s ≡ paste d at (part from n d) i → from + n ≤ length d → i ≤ n → n ≤ i
+    → s ≡ put at (part from n d) d
+shift-all! d at from n i s e h k m =
+    let lr : length (part from n d) ≡ n = length-part from n d h in
+    copy-all! d at (part from n d) i s e (omega arith) (omega arith)
 
 pub length-set-of! : (d : List ℕ) (i v : ℕ) (s : List ℕ) → length s ≡ length d → length (set s i v) ≡ length d
 length-set-of! d i v s e = length-set s i v ∙ e

@@ -6,14 +6,14 @@ use native.Mathlib.Omega.{arith}
 use mathlib.Core.Path.{_≡_, refl, sym, ap, ap₂, _∙_}
 use mathlib.Core.Bool.{Bool, true, false}
 use mathlib.Core.List.{List, [], _∷_, _++_}
-use lib.ListN.{length, take, drop, getD, replicate, length-replicate, getD-replicate, replicate-append-replicate, drop-of-length-le}
-use lib.Seq.{drop-cons}
+use lib.ListN.{length, take, drop, getD, set, replicate, length-replicate, getD-replicate, replicate-append-replicate, drop-of-length-le}
+use lib.Seq.{drop-cons, paste}
 use lib.Dec.{eqb}
 use lib.Bits.{bitOr, bitAnd, or-add-and, and-le-l, and-le-r}
 use borrow.Author.Tests.{eqb-true, eqb-false, eq-eqb, ne-eqb}
 use Rattle.field.specs.Test.{both}
-use Rattle.field.specs.Bytes.{zeroes, allZero}
-use Rattle.field.proofs.Part.{split}
+use Rattle.field.specs.Bytes.{put, zeroes, allZero}
+use Rattle.field.proofs.Part.{split, copy-none!, copy-more!, copy-all! }
 use Rattle.field.proofs.Test.{both-1, both-2, both-true, both-false, both-assoc}
 
 -- ---- n zeros
@@ -85,3 +85,19 @@ seen-more! l a i e h =
 pub seen-all! : (l : List ℕ) (a i : ℕ) → allZero l ≡ both (eqb a 0) (allZero (drop i l)) → length l ≤ i → eqb a 0 ≡ allZero l
 unfolding allZero
 seen-all! l a i e h = sym (e ∙ rw (drop-of-length-le l h) (both-end (eqb a 0)))
+
+-- ---- a loop that writes n zeros over d from the offset at: its start, a turn, its end
+
+pub clear-none! : (d : List ℕ) (at n : ℕ) → d ≡ paste d at (zeroes n) 0
+clear-none! d at n = copy-none! d at (zeroes n)
+
+pub clear-more! : (d : List ℕ) (at n i : ℕ) (s : List ℕ) → s ≡ paste d at (zeroes n) i → at + n ≤ length d → i < n
+    → set s (at + i) 0 ≡ paste d at (zeroes n) (i + 1)
+clear-more! d at n i s e h k =
+    let lz : length (zeroes n) ≡ n = length-zeroes n in
+    ap (set s (at + i)) (sym (getD-zeroes n i k)) ∙ copy-more! d at (zeroes n) i s e (omega arith) (omega arith)
+
+pub clear-all! : (d : List ℕ) (at n i : ℕ) (s : List ℕ) → s ≡ paste d at (zeroes n) i → i ≤ n → n ≤ i → s ≡ put at (zeroes n) d
+clear-all! d at n i s e h k =
+    let lz : length (zeroes n) ≡ n = length-zeroes n in
+    copy-all! d at (zeroes n) i s e (omega arith) (omega arith)

@@ -2,7 +2,7 @@
 ghost use mathlib.Core.Path.{_≡_};
 ghost use Prim.Native.Nat.{ℕ, _+_, _*_, _≤_, _<_};
 ghost use lib.ListN.{length};
-ghost use Rattle.field.specs.Bytes.{put, allZero, le2, le4, bytes2, bytes4};
+ghost use Rattle.field.specs.Bytes.{part, put, zeroes, allZero, le2, le4, bytes2, bytes4};
 
 // The number of a page, of a log record and of a unit: none may stand where another is meant.
 pub struct PageNo(pub u32);
@@ -82,6 +82,30 @@ pub fn copy(s: &mut [u8], at: usize, rs: &[u8])
     let mut i = 0;
     while i < rs.len() {
         s[at + i] = rs[i];
+        i += 1;
+    }
+}
+
+// Writes n zeros over s, from the offset at.
+pub fn clear(s: &mut [u8], at: usize, n: usize)
+    requires { ⌜ at + n ≤ length (now s) ⌝ }
+    ensures { λ _. ⌜ now (s .exit) ≡ put at (zeroes n) (now (s .entry)) ⌝ }
+{
+    let mut i = 0;
+    while i < n {
+        s[at + i] = 0;
+        i += 1;
+    }
+}
+
+// Writes n bytes of s, those from the offset from, over s from the offset at, which is no higher.
+pub fn shift(s: &mut [u8], at: usize, from: usize, n: usize)
+    requires { ⌜ (at ≤ from) × (from + n ≤ length (now s)) ⌝ }
+    ensures { λ _. ⌜ now (s .exit) ≡ put at (part from n (now (s .entry))) (now (s .entry)) ⌝ }
+{
+    let mut i = 0;
+    while i < n {
+        s[at + i] = s[from + i];
         i += 1;
     }
 }

@@ -8,7 +8,7 @@ use native.Mathlib.Omega.{arith}
 use mathlib.Core.Path.{_≡_, refl, sym, ap, _∙_, subst}
 use mathlib.Core.Logic.{_⊎_, ⊎-elim}
 use mathlib.Core.List.{List, [], _∷_, _++_, append-assoc}
-use lib.ListN.{length, take, drop, getD, set, length-set, length-append, length-take, length-drop, List·getD-append}
+use lib.ListN.{length, take, drop, getD, set, take-append-drop, length-set, length-append, length-take, length-drop, List·getD-append}
 use lib.Seq.{paste, paste-zero, paste-suc, take-all, sets, sets-eq, ext-getD, drop-drop, length-take-le, getD-append-add, getD-take, getD-drop, take-add, take-length, take-append-le, drop-append-le, take-append-add, drop-append-add, take-at, drop-at}
 use borrow.Rule.Slice.PartMut.{putMid}
 use Rattle.field.specs.Bytes.{part, put}
@@ -49,6 +49,11 @@ part-part o n a m l h k =
 pub part-add : (o n m : ℕ) (l : List ℕ) → part o (n + m) l ≡ part o n l ++ part (o + n) m l
 unfolding part
 part-add o n m l = take-add n m (drop o l) ∙ rw (drop-drop n o l)
+
+-- what follows an offset is a part and what follows that
+pub drop-cut : (o n : ℕ) (l : List ℕ) → drop o l ≡ part o n l ++ drop (o + n) l
+unfolding part
+drop-cut o n l = sym (rw (← drop-drop n o l) (take-append-drop n (drop o l)))
 
 -- a part of a ++ l within a, behind a, and a itself
 pub part-within : (a l : List ℕ) (o n : ℕ) → o + n ≤ length a → part o n (a ++ l) ≡ part o n a

@@ -81,6 +81,12 @@ unfolding pick
 pick-second true b e = refl
 pick-second false b e = e
 
+-- what holds of both answers holds of the one picked
+pub pick-either {ℓ κ} : {A : Type ℓ} (P : A → Type κ) (b : Bool) (x y : A) → P x → P y → P (pick b x y)
+unfolding pick
+pick-either P true x y p q = p
+pick-either P false x y p q = q
+
 pub need-true {ℓ} : {A : Type ℓ} (b : Bool) (refusal rest : A) → b ≡ true → need b refusal rest ≡ rest
 unfolding need
 need-true b refusal rest p = rw p

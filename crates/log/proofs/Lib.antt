@@ -3,3 +3,4 @@ pub mod Record
 pub mod State
 pub mod Begin
 pub mod Valid
+pub mod Read

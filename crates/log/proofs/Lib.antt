@@ -4,3 +4,4 @@ pub mod State
 pub mod Begin
 pub mod Valid
 pub mod Read
+pub mod Append

@@ -1,0 +1,53 @@
+-- A log with a record more: its bytes are the log's bytes with the record written over the zeros at the log's end, and its state is
+-- the one after that record. Assumes nothing.
+use Prim.Native.Nat.{ℕ, zero, suc, _+_, _-_, _*_, _≤_, _<_}
+use native.Mathlib.Nat.{add-zero, zero-add}
+use native.Mathlib.Omega.{arith}
+use mathlib.Core.Path.{_≡_, refl, sym, ap, _∙_}
+use mathlib.Core.List.{List, [], _∷_, _++_, append-assoc, append-nil}
+use lib.ListN.{length, take, drop, length-append}
+use Rattle.field.specs.Bytes.{put, zeroes}
+use Rattle.field.proofs.Part.{put-past}
+use Rattle.field.proofs.Zero.{drop-zeroes}
+use Rattle.log.specs.Record.{Check, Rec, size, encodeCheck, encode, encodeAll}
+use Rattle.log.specs.Log.{State, first, after, afterAll, Log, atEnd, encodeLog}
+use Rattle.log.proofs.Record.{Sized, length-encode}
+use Rattle.log.proofs.State.{sizes, Every, afterAll-append, encodeAll-append, number-atEnd, length-encodeLog}
+use Rattle.log.proofs.Valid.{Fits, Valid, Good, follows-sized, valid-sized, valid-append}
+
+-- the log with one record more
+abbrev pub grown : Log → Rec → Log
+grown g r = record { top = g .top; recs = g .recs ++ (r ∷ []) }
+
+pub atEnd-grown : (g : Log) (r : Rec) → atEnd (grown g r) ≡ after (atEnd g) r
+unfolding atEnd afterAll
+atEnd-grown g r = afterAll-append (first (g .top)) (g .recs) (r ∷ [])
+
+pub encodeLog-grown : (g : Log) (r : Rec) → encodeLog (grown g r) ≡ encodeLog g ++ encode ((atEnd g) .number + 1) r
+unfolding encodeLog encodeAll
+encodeLog-grown g r =
+    let n : ℕ = g .top .number + 1 in
+    let q : n + length (g .recs) ≡ (atEnd g) .number + 1 = omega (arith, number-atEnd g) in
+    rw (encodeAll-append n (g .recs) (r ∷ []), q, append-nil (encode ((atEnd g) .number + 1) r))
+    (sym (append-assoc (encodeCheck (g .top)) (encodeAll n (g .recs)) (encode ((atEnd g) .number + 1) r)))
+
+-- a write over the front of zeros
+pub put-zeroes : (bs : List ℕ) (n : ℕ) → put 0 bs (zeroes n) ≡ bs ++ zeroes (n - length bs)
+unfolding put
+put-zeroes bs n = rw (zero-add (length bs), drop-zeroes (length bs) n)
+
+-- the record is written over the zeros behind the log
+pub put-grown : (g : Log) (r : Rec) (n : ℕ) → Every Sized (g .recs) → Sized r
+    → put ((atEnd g) .at) (encode ((atEnd g) .number + 1) r) (encodeLog g ++ zeroes (n - (atEnd g) .at))
+    ≡ encodeLog (grown g r) ++ zeroes (n - ((atEnd g) .at + size r))
+put-grown g r n h k =
+    let a : ℕ = (atEnd g) .at in
+    let e : List ℕ = encode ((atEnd g) .number + 1) r in
+    let q : n - a - size r ≡ n - (a + size r) = omega arith in
+    ap (λ (i : ℕ). put i e (encodeLog g ++ zeroes (n - a))) (sym (add-zero a))
+    ∙ put-past (encodeLog g) e (zeroes (n - a)) a 0 (length-encodeLog g h)
+    ∙ rw (put-zeroes e (n - a), length-encode ((atEnd g) .number + 1) r k, q, encodeLog-grown g r) (sym (append-assoc (encodeLog g) e (zeroes (n - (a + size r)))))
+
+pub good-grown : (g : Log) (r : Rec) → Good g → Fits (atEnd g) r → Good (grown g r)
+unfolding atEnd
+good-grown g r h f = record { number = h .number; unit = h .unit; lk = h .lk; valid = valid-append (r ∷ []) (h .valid) (Valid.cons f Valid.nil) }

@@ -1,0 +1,117 @@
+-- What the test of a begin record says of its numbers, so that each fits the bytes that it is written in. Assumes nothing.
+use Prim.Native.Nat.{ℕ, zero, suc, _+_, _≤_, _<_}
+use native.Mathlib.Omega.{arith}
+use mathlib.Core.Path.{_≡_, refl, sym, ap, _∙_}
+use mathlib.Core.Logic.{_⊎_, inl, inr, ⊎-elim}
+use mathlib.Core.Bool.{Bool, true, false}
+use mathlib.Core.List.{List, [], _∷_, _++_}
+use lib.ListN.{length}
+use lib.Dec.{eqb, leb}
+use borrow.Author.Tests.{eqb-true, leb-true}
+use Rattle.field.specs.Test.{both, all, pick}
+use Rattle.field.specs.Bytes.{most4}
+use Rattle.field.proofs.Test.{both-1, both-2, all-head, all-tail}
+use Rattle.log.specs.Record.{Begin, LB}
+use Rattle.log.specs.Log.{within, compactOk, swapOk, moveOk, typeOk, beginOk}
+use Rattle.log.proofs.Record.{Narrow}
+
+-- the numbers of a begin record that its type bounds
+pub record Limits (g : Begin) : Type 0 where
+  pub type : g .type ≤ 3
+  pub fill : g .fill ≤ 15
+  pub bases : length (g .bases) ≤ 2
+  pub leaves : length (g .leaves) ≤ 8
+  pub dest : g .dest ≤ 63
+
+-- a listed page lies in its region
+pub within-head : (from to p : ℕ) (ps : List ℕ) → within from to (p ∷ ps) ≡ true → (from ≤ p) × (p ≤ to)
+unfolding within
+within-head from to p ps e =
+    let f = both-2 (leb from p) (both (leb p to) (within from to ps)) e in
+    (leb-true from p (both-1 (leb from p) _ e), leb-true p to (both-1 (leb p to) (within from to ps) f))
+
+pub within-tail : (from to p : ℕ) (ps : List ℕ) → within from to (p ∷ ps) ≡ true → within from to ps ≡ true
+unfolding within
+within-tail from to p ps e = both-2 (leb p to) (within from to ps) (both-2 (leb from p) (both (leb p to) (within from to ps)) e)
+
+module _ (g : Begin) where
+  compact-limits : g .type ≡ 1 → compactOk g ≡ true → Limits g
+  unfolding compactOk
+  compact-limits t e =
+      let e1 = all-tail _ _ e in
+      let e2 = all-tail _ _ e1 in
+      let e3 = all-tail _ _ e2 in
+      let e4 = all-tail _ _ e3 in
+      let e5 = all-tail _ _ e4 in
+      record {
+        type = omega arith;
+        fill = leb-true (g .fill) 15 (all-head _ _ e4);
+        bases = omega (arith, eqb-true (length (g .bases)) 1 (all-head _ _ e));
+        leaves = leb-true (length (g .leaves)) 8 (all-head _ _ e2);
+        dest = within-head 8 63 (g .dest) [] (all-head _ _ e5) .1;
+      }
+
+  swap-limits : g .type ≡ 2 → swapOk g ≡ true → Limits g
+  unfolding swapOk
+  swap-limits t e =
+      let e1 = all-tail _ _ e in
+      let e2 = all-tail _ _ e1 in
+      let e3 = all-tail _ _ e2 in
+      let e4 = all-tail _ _ e3 in
+      record {
+        type = omega arith;
+        fill = omega (arith, eqb-true (g .fill) 0 (all-head _ _ e3));
+        bases = leb-true (length (g .bases)) 2 (all-head _ _ e1);
+        leaves = omega (arith, eqb-true (length (g .leaves)) 2 (all-head _ _ e2));
+        dest = omega (arith, eqb-true (g .dest) 0 (all-head _ _ e4));
+      }
+
+  move-limits : g .type ≡ 3 → moveOk g ≡ true → Limits g
+  unfolding moveOk
+  move-limits t e =
+      let e1 = all-tail _ _ e in
+      let e2 = all-tail _ _ e1 in
+      let e3 = all-tail _ _ e2 in
+      record {
+        type = omega arith;
+        fill = omega (arith, eqb-true (g .fill) 0 (all-head _ _ e2));
+        bases = omega (arith, eqb-true (length (g .bases)) 1 (all-head _ _ e));
+        leaves = omega (arith, eqb-true (length (g .leaves)) 1 (all-head _ _ e1));
+        dest = within-head 8 63 (g .dest) [] (all-head _ _ e3) .1;
+      }
+
+  -- one test or the other
+  by-test : (t a b : Bool) → pick t a b ≡ true → (t ≡ true → a ≡ true → Limits g) → (b ≡ true → Limits g) → Limits g
+  unfolding pick
+  by-test true a b e f h = f refl e
+  by-test false a b e f h = h e
+
+  pub typeOk-limits : typeOk g ≡ true → Limits g
+  unfolding typeOk
+  typeOk-limits e =
+      by-test (eqb (g .type) 1) (compactOk g) (pick (eqb (g .type) 2) (swapOk g) (both (eqb (g .type) 3) (moveOk g))) e
+      (λ t a. compact-limits (eqb-true (g .type) 1 t) a)
+      (λ d. by-test (eqb (g .type) 2) (swapOk g) (both (eqb (g .type) 3) (moveOk g)) d
+      (λ t a. swap-limits (eqb-true (g .type) 2 t) a)
+      (λ m. move-limits (eqb-true (g .type) 3 (both-1 (eqb (g .type) 3) (moveOk g) m)) (both-2 (eqb (g .type) 3) (moveOk g) m)))
+
+  -- what the test says of a begin record
+  module _ (ok : beginOk g ≡ true) where
+    pub beginOk-unit : g .unit ≤ most4
+    unfolding beginOk
+    beginOk-unit = leb-true (g .unit) most4 (all-head _ _ ok)
+
+    pub beginOk-limits : Limits g
+    unfolding beginOk
+    beginOk-limits = typeOk-limits (all-head _ _ (all-tail _ _ ok))
+
+    pub beginOk-bases : within 1 7 (g .bases) ≡ true
+    unfolding beginOk
+    beginOk-bases = all-head _ _ (all-tail _ _ (all-tail _ _ ok))
+
+    pub beginOk-leaves : within 8 63 (g .leaves) ≡ true
+    unfolding beginOk
+    beginOk-leaves = all-head _ _ (all-tail _ _ (all-tail _ _ (all-tail _ _ (all-tail _ _ ok))))
+
+    pub beginOk-narrow : Narrow (LB g)
+    beginOk-narrow = let m : Limits g = beginOk-limits in (omega arith, omega arith, omega arith, omega arith)

@@ -1,0 +1,104 @@
+-- Which record may come next after a state, chains of such records, and logs made of one: the logs that recovery accepts and that the
+-- calls write. Assumes nothing.
+use Prim.Native.Nat.{ℕ, zero, suc, _+_, _≤_, _<_}
+use native.Mathlib.Omega.{arith}
+use mathlib.Core.Path.{_≡_, refl, sym, ap, _∙_}
+use mathlib.Core.Bool.{Bool, true, false}
+use mathlib.Core.List.{List, [], _∷_, _++_}
+use mathlib.Core.Option.{Option, some, none}
+use lib.ListN.{length, take, drop}
+use Rattle.field.specs.Bytes.{Bytes, most4}
+use Rattle.page.specs.Page.{ascendRecords}
+use Rattle.page.proofs.Rows.{Each, Long}
+use Rattle.log.specs.Record.{Check, Begin, Rec, LB, LO, LI, LM, LE, carried}
+use Rattle.log.specs.Plan.{Step, takeOut, bringIn, point, close}
+use Rattle.log.specs.Log.{Open, State, first, after, afterAll, beginOk, taken, Log}
+use Rattle.log.proofs.Record.{Sized, Narrow}
+use Rattle.log.proofs.State.{Every}
+use Rattle.log.proofs.Begin.{beginOk-narrow}
+
+-- the rows of an LO: 1 to 15 of 16 bytes, marked, their keys ascending
+pub record Moved (rs : List (List ℕ)) : Type 0 where
+  pub some-rows : 1 ≤ length rs
+  pub few-rows : length rs ≤ 15
+  pub long : Each (Long 16) rs
+  pub bytes : Each Bytes rs
+  pub order : ascendRecords 0 rs ≡ true
+
+-- the record does the step, in a unit whose records so far are did, the latest first
+pub data Does (did : List Rec) : Step → Rec → Type 0 where
+  does-out : {org dest : ℕ} {rs : List (List ℕ)} → Moved rs → Does did (takeOut org dest) (LO org dest rs)
+  does-in : {org dest back : ℕ} {rs : List (List ℕ)} → rs ≡ taken back did → Does did (bringIn org dest back) (LI org dest back rs)
+  does-point : {base old new key : ℕ} {other : Bool} → key ≤ most4 → Does did (point base old new other) (LM base old new key)
+  does-close : {unit : ℕ} → Does did (close unit) (LE unit)
+
+-- where no unit is open, a begin record of the next unit; otherwise the first step to come
+pub data Follows (unit : ℕ) : Option Open → Rec → Type 0 where
+  begins : {g : Begin} → g .unit ≡ unit + 1 → beginOk g ≡ true → Follows unit none (LB g)
+  goes : {o : Open} {x : Step} {xs : List Step} {r : Rec} → o .todo ≡ x ∷ xs → Does (o .did) x r → Follows unit (some o) r
+
+-- the record may come next, and has a number
+pub record Fits (s : State) (r : Rec) : Type 0 where
+  pub room : s .number + 1 ≤ most4
+  pub follows : Follows (s .unit) (s .opened) r
+
+-- each record may come next after those before it
+pub data Valid : State → List Rec → Type 0 where
+  nil : {s : State} → Valid s []
+  cons : {s : State} {r : Rec} {rs : List Rec} → Fits s r → Valid (after s r) rs → Valid s (r ∷ rs)
+
+-- a log whose numbers fit their bytes and whose records each may come next
+pub record Good (g : Log) : Type 0 where
+  pub number : g .top .number ≤ most4
+  pub unit : g .top .unit ≤ most4
+  pub lk : (k : ℕ) → g .top .lk ≡ some k → k ≤ most4
+  pub valid : Valid (first (g .top)) (g .recs)
+
+-- ---- a record that fits can be written
+
+does-sized : {did : List Rec} {x : Step} {r : Rec} → Does did x r → Sized r
+unfolding carried
+does-sized (does-out m) = m .long
+does-sized (does-in e) = Each.nil
+does-sized (does-point h) = Each.nil
+does-sized does-close = Each.nil
+
+does-narrow : {did : List Rec} {x : Step} {r : Rec} → Does did x r → Narrow r
+does-narrow (does-out m) = m .bytes
+does-narrow (does-in e) = tt
+does-narrow (does-point h) = tt
+does-narrow does-close = tt
+
+pub follows-sized : {u : ℕ} {o : Option Open} {r : Rec} → Follows u o r → Sized r
+unfolding carried
+follows-sized (begins e ok) = Each.nil
+follows-sized (goes e d) = does-sized d
+
+pub follows-narrow : {u : ℕ} {o : Option Open} {r : Rec} → Follows u o r → Narrow r
+follows-narrow (begins {g = g} e ok) = beginOk-narrow g ok
+follows-narrow (goes e d) = does-narrow d
+
+pub valid-sized : {s : State} {rs : List Rec} → Valid s rs → Every Sized rs
+valid-sized nil = Every.nil
+valid-sized (cons f v) = Every.cons (follows-sized (f .follows)) (valid-sized v)
+
+pub valid-narrow : {s : State} {rs : List Rec} → Valid s rs → Every Narrow rs
+valid-narrow nil = Every.nil
+valid-narrow (cons f v) = Every.cons (follows-narrow (f .follows)) (valid-narrow v)
+
+-- ---- beginnings of a chain, and chains one after the other
+
+pub valid-take : {s : State} {rs : List Rec} (m : ℕ) → Valid s rs → Valid s (take m rs)
+valid-take zero v = nil
+valid-take (suc m) nil = nil
+valid-take (suc m) (cons f v) = cons f (valid-take m v)
+
+pub valid-append : {s : State} {a : List Rec} (b : List Rec) → Valid s a → Valid (afterAll s a) b → Valid s (a ++ b)
+unfolding afterAll
+valid-append b nil w = w
+valid-append b (cons f v) w = cons f (valid-append b v w)
+
+pub valid-split : (s : State) (a b : List Rec) → Valid s (a ++ b) → Valid s a × Valid (afterAll s a) b
+unfolding afterAll
+valid-split s [] b v = (nil, v)
+valid-split s (r ∷ a) b (cons f v) = let w = valid-split (after s r) a b v in (cons f (w .0), w .1)

@@ -1,0 +1,110 @@
+-- What a record leaves of the page that it changes: a page of 256 bytes, in form where the record stands in a log in form, stamped with
+-- the record's number. Assumes nothing.
+use Prim.Native.Nat.{ℕ, zero, suc, _+_, _-_, _*_, _≤_, _<_}
+use native.Mathlib.Omega.{arith}
+use mathlib.Core.Path.{_≡_, refl, sym, ap, _∙_}
+use mathlib.Core.Logic.{_⊎_, inl, inr, ⊎-elim}
+use mathlib.Core.Bool.{Bool, true, false, false≢true}
+use mathlib.Core.List.{List, [], _∷_, _++_}
+use mathlib.Core.Option.{Option, some, none}
+use lib.ListN.{length, getD}
+use lib.Dec.{eqb, leb}
+use borrow.Author.Tests.{eq-eqb, ne-eqb, lt-leb, le-leb}
+use Rattle.field.specs.Test.{pick, bind}
+use Rattle.field.specs.Bytes.{Bytes}
+use Rattle.field.proofs.Test.{pick-true, pick-false, bind-some, Bound}
+use Rattle.page.specs.Page.{number, base, leaf, empty, isBase, isLeaf, isEmpty, formed}
+use Rattle.page.specs.Change.{emptied, appended, redirected, removed}
+use Rattle.page.specs.Pages.{page, putPage}
+use Rattle.page.proofs.Rows.{Each, Long}
+use Rattle.page.proofs.Kept.{Changed, emptied-kept, appended-kept, redirected-kept, removed-kept}
+use Rattle.log.specs.Record.{Begin, Rec, LB, LO, LI, LM, LE}
+use Rattle.unit.specs.Next.{target, change, changedAt, apply, repeat, repeatAll}
+use Rattle.unit.proofs.Places.{Leafy, Basic, RecKeeps}
+
+-- the rows of an LI: one or more of 16 bytes
+abbrev pub RowsOf : Rec → Type 0
+RowsOf (LB g) = Unit {0}
+RowsOf (LO org dest rs) = Unit {0}
+RowsOf (LI org dest back rs) = Each (Long 16) rs × (1 ≤ length rs)
+RowsOf (LM base old new key) = Unit {0}
+RowsOf (LE unit) = Unit {0}
+
+-- ---- a page of its kind is in form where it stands
+
+pub empty-formed : (p : ℕ) (pg : List ℕ) → 1 ≤ p → isEmpty pg ≡ true → formed p pg ≡ true
+unfolding formed pick
+empty-formed p pg h e = rw (ne-eqb p 0 (λ q. omega arith), e)
+
+pub leaf-formed : (p : ℕ) (pg : List ℕ) → 8 ≤ p → isLeaf pg ≡ true → formed p pg ≡ true
+unfolding formed
+leaf-formed p pg h e = rw (ne-eqb p 0 (λ q. omega arith), lt-leb p 7 (omega arith)) (by-empty (isEmpty pg))
+  where
+    by-empty : (b : Bool) → pick false (Rattle.page.specs.Page.isRoot pg) (pick b true (pick false (isBase pg) (isLeaf pg))) ≡ true
+    by-empty true = unfold pick in refl
+    by-empty false = unfold pick in e
+
+pub base-formed : (p : ℕ) (pg : List ℕ) → 1 ≤ p → p ≤ 7 → isBase pg ≡ true → formed p pg ≡ true
+unfolding formed
+base-formed p pg h k e = rw (ne-eqb p 0 (λ q. omega arith), le-leb p 7 k) (by-empty (isEmpty pg))
+  where
+    by-empty : (b : Bool) → pick false (Rattle.page.specs.Page.isRoot pg) (pick b true (pick true (isBase pg) (isLeaf pg))) ≡ true
+    by-empty true = unfold pick in refl
+    by-empty false = unfold pick in e
+
+-- ---- one record
+
+pub record Leaves (n p : ℕ) (pg : List ℕ) : Type 0 where
+  pub form : formed p pg ≡ true
+  pub stamp : number pg ≡ n
+  pub whole : length pg ≡ 256
+
+empty-left : (n p : ℕ) (pg : List ℕ) → 1 ≤ p → Changed empty n [] pg → Leaves n p pg
+unfolding isEmpty
+empty-left n p pg h c = record { form = empty-formed p pg h (c .form); stamp = c .stamped; whole = c .whole }
+
+leaf-left : (n p : ℕ) (rs : List (List ℕ)) (pg : List ℕ) → 8 ≤ p → Changed leaf n rs pg → Leaves n p pg
+unfolding isLeaf
+leaf-left n p rs pg h c = record { form = leaf-formed p pg h (c .form); stamp = c .stamped; whole = c .whole }
+
+base-left : (n p : ℕ) (es : List (List ℕ)) (pg : List ℕ) → Basic p → Changed base n es pg × (isBase pg ≡ true) → Leaves n p pg
+base-left n p es pg h c = record { form = base-formed p pg (h .0) (h .1) (c .1); stamp = c .0 .stamped; whole = c .0 .whole }
+
+-- an LM, by whether it removes
+modify-left : (n b key old new : ℕ) (pg pg′ : List ℕ) → Basic b → (new ≡ 0) ⊎ Leafy new → n < 4294967296
+    → pick (eqb new 0) (removed n key old pg) (redirected n key old new pg) ≡ some pg′ → Leaves n b pg′
+modify-left n b key old new pg pg′ h to small e =
+    ⊎-elim
+    (λ (z : new ≡ 0). base-left n b _ pg′ h
+    (removed-kept n key old pg pg′ (sym (pick-true (eqb new 0) (removed n key old pg) (redirected n key old new pg) (eq-eqb new 0 z)) ∙ e) small))
+    (λ (l : Leafy new). base-left n b _ pg′ h
+    (redirected-kept n key old new pg pg′
+    (sym (pick-false (eqb new 0) (removed n key old pg) (redirected n key old new pg) (ne-eqb new 0 (λ z. omega (arith, l .0)))) ∙ e) small (l .0) (l .1)))
+    to
+
+some-eq : (a b : ℕ) → some a ≡ some b → a ≡ b
+some-eq a b e = cc
+
+some-none : (a : ℕ) → none ≡ some a → ⊥
+some-none a e = let z : _≡_ {A = ℕ} 0 1 = cc in omega arith
+
+pub change-leaves : (n p : ℕ) (r : Rec) (pg pg′ : List ℕ) → RecKeeps r → RowsOf r → n < 4294967296 → target r ≡ some p
+    → change n r pg ≡ some pg′ → Leaves n p pg′
+unfolding target change
+change-leaves n p (LB g) pg pg′ k rows small t e = absurd (some-none p t)
+change-leaves n p (LO org dest rs) pg pg′ k rows small t e =
+    rw (← (some-eq org p t)) (empty-left n org pg′ (omega (arith, k .0)) (emptied-kept n rs pg pg′ e small))
+change-leaves n p (LI org dest back rs) pg pg′ k rows small t e =
+    rw (← (some-eq dest p t)) (leaf-left n dest _ pg′ (k .0) (appended-kept n rs pg pg′ e small (rows .0) (rows .1)))
+change-leaves n p (LM b old new key) pg pg′ k rows small t e =
+    rw (← (some-eq b p t)) (modify-left n b key old new pg pg′ (k .0) (k .1) small e)
+change-leaves n p (LE unit) pg pg′ k rows small t e = absurd (some-none p t)
+
+-- the page that a record changes is one of the 64
+pub target-page : (p : ℕ) (r : Rec) → RecKeeps r → target r ≡ some p → p < 64
+unfolding target
+target-page p (LB g) k t = absurd (some-none p t)
+target-page p (LO org dest rs) k t = omega (arith, some-eq org p t, k .1)
+target-page p (LI org dest back rs) k t = omega (arith, some-eq dest p t, k .1)
+target-page p (LM b old new key) k t = omega (arith, some-eq b p t, k .0 .1)
+target-page p (LE unit) k t = absurd (some-none p t)

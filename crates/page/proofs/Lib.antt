@@ -2,6 +2,7 @@
 pub mod Rows
 pub mod Order
 pub mod Turns
+pub mod Tests
 pub mod Made
 pub mod Kept
 pub mod Pages

@@ -30,6 +30,11 @@ pub both-false : (a b : Bool) → a ≡ false → both a b ≡ false
 unfolding both
 both-false a b p = rw p
 
+pub both-end : (a : Bool) → both a true ≡ a
+unfolding both
+both-end true = refl
+both-end false = refl
+
 pub both-assoc : (a b c : Bool) → both (both a b) c ≡ both a (both b c)
 unfolding both
 both-assoc true b c = refl

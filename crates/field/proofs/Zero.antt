@@ -14,7 +14,7 @@ use borrow.Author.Tests.{eqb-true, eqb-false, eq-eqb, ne-eqb}
 use Rattle.field.specs.Test.{both}
 use Rattle.field.specs.Bytes.{put, zeroes, allZero}
 use Rattle.field.proofs.Part.{split, copy-none!, copy-more!, copy-all! }
-use Rattle.field.proofs.Test.{both-1, both-2, both-true, both-false, both-assoc}
+use Rattle.field.proofs.Test.{both-1, both-2, both-end, both-assoc}
 
 -- ---- n zeros
 
@@ -66,11 +66,6 @@ zero-sum a b o n e p q =
 
 pub or-zero : (a b : ℕ) → eqb (bitOr a b) 0 ≡ both (eqb a 0) (eqb b 0)
 or-zero a b = zero-sum a b (bitOr a b) (bitAnd a b) (or-add-and a b) (and-le-l a b) (and-le-r a b)
-
-both-end : (a : Bool) → both a true ≡ a
-unfolding both
-both-end true = refl
-both-end false = refl
 
 pub seen-none! : (l : List ℕ) → allZero l ≡ both (eqb 0 0) (allZero (drop 0 l))
 unfolding both

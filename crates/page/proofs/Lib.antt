@@ -1,6 +1,8 @@
 -- Laws of rows, of their order, of a page that is made, of the page changes, and of 64 pages side by side.
 pub mod Rows
 pub mod Order
+pub mod Turns
+pub mod Tests
 pub mod Made
 pub mod Kept
 pub mod Pages

@@ -14,10 +14,10 @@ use borrow.Author.Tests.{eqb-true, leb-true, eq-eqb, le-leb}
 use Rattle.field.specs.Test.{both}
 use Rattle.field.specs.Bytes.{part, put, Bytes, le2, le4, bytes2}
 use Rattle.field.proofs.Test.{both-1, both-2, both-intro, both-assoc}
-use Rattle.field.proofs.Part.{length-put, getD-part}
+use Rattle.field.proofs.Part.{part-drop}
 use Rattle.field.proofs.Number.{le2-part, le4-part, length-bytes2}
 use Rattle.field.proofs.Byte.{bytes-nil, bytes-append, bytes-take, bytes-drop}
-use Rattle.page.specs.Page.{rowsOf, joined, keyOf, toPage, ascend, pointing}
+use Rattle.page.specs.Page.{rowsOf, joined, keyOf, toPage, count, rows}
 
 -- ---- a property of each row
 
@@ -120,3 +120,14 @@ key-row sz at l h = le4-part at sz l 2 (omega arith)
 pub page-row : (sz at : ℕ) (l : List ℕ) → 8 ≤ sz → toPage (part at sz l) ≡ le2 l (at + 6)
 unfolding toPage
 page-row sz at l h = le2-part at sz l 6 (omega arith)
+
+-- row i of a page, where it stands
+pub getD-rows : (sz i : ℕ) (pg : List ℕ) → i < count pg → getD (rows sz pg) i [] ≡ part (16 + sz * i) sz pg
+unfolding rows
+getD-rows sz i pg h = getD-rowsOf sz (count pg) i (drop 16 pg) h ∙ part-drop 16 (sz * i) sz pg
+
+pub key-at : (sz i : ℕ) (pg : List ℕ) → 6 ≤ sz → i < count pg → le4 pg (16 + sz * i + 2) ≡ keyOf (getD (rows sz pg) i [])
+key-at sz i pg h k = sym (ap keyOf (getD-rows sz i pg k) ∙ key-row sz (16 + sz * i) pg h)
+
+pub page-at : (i : ℕ) (pg : List ℕ) → i < count pg → le2 pg (16 + 8 * i + 6) ≡ toPage (getD (rows 8 pg) i [])
+page-at i pg k = sym (ap toPage (getD-rows 8 i pg k) ∙ page-row 8 (16 + 8 * i) pg (omega arith))

@@ -5,3 +5,4 @@ pub mod Begin
 pub mod Valid
 pub mod Read
 pub mod Append
+pub mod Write

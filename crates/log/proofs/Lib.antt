@@ -6,3 +6,4 @@ pub mod Valid
 pub mod Read
 pub mod Append
 pub mod Write
+pub mod Ends

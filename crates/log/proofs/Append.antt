@@ -50,4 +50,4 @@ put-grown g r n h k =
 
 pub good-grown : (g : Log) (r : Rec) → Good g → Fits (atEnd g) r → Good (grown g r)
 unfolding atEnd
-good-grown g r h f = record { number = h .number; unit = h .unit; lk = h .lk; valid = valid-append (r ∷ []) (h .valid) (Valid.cons f Valid.nil) }
+good-grown g r h f = record { top = h .top; valid = valid-append (r ∷ []) (h .valid) (Valid.cons f Valid.nil) }

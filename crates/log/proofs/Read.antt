@@ -25,7 +25,7 @@ use Rattle.log.specs.Plan.{Step, takeOut, bringIn, point, close}
 use Rattle.log.specs.Log.{Open, State, first, after, readBegin, beginOk, taken, planned, plannedFirst, expected, readRec, readRecs, readCheck, Log, readLog, atEnd, encodeLog}
 use Rattle.log.proofs.Record.{Sized, length-encodeCheck, length-encode}
 use Rattle.log.proofs.State.{sizes, Every, at-atEnd}
-use Rattle.log.proofs.Valid.{Moved, Does, does-out, does-in, does-point, does-close, Follows, begins, goes, Fits, Valid, Good}
+use Rattle.log.proofs.Valid.{Moved, Does, does-out, does-in, does-point, does-close, Follows, begins, goes, Fits, Valid, Small, Good}
 
 -- ---- one record
 
@@ -157,9 +157,7 @@ readRecs-facts (suc f) s l rs e =
 pub record ReadTop (l : List ℕ) (c : Check) : Type 0 where
   pub short : 24 ≤ length l
   pub front : l ≡ encodeCheck c ++ drop 24 l
-  pub number : Bytes l → c .number ≤ most4
-  pub unit : Bytes l → c .unit ≤ most4
-  pub lk : Bytes l → (k : ℕ) → c .lk ≡ some k → k ≤ most4
+  pub small : Bytes l → Small c
 
 key-small : (t : Bool) (v k : ℕ) → pick t none (some v) ≡ some k → v ≤ most4 → k ≤ most4
 unfolding pick
@@ -175,9 +173,11 @@ readCheck-facts l c e =
     subst (ReadTop l) (w .1) (record {
       short = omega (arith, starts-length (encodeCheck d) l (w .0));
       front = rw n at (starts-eq (encodeCheck d) l (w .0));
-      number = λ b. omega (arith, le4-small l 4 b);
-      unit = λ b. omega (arith, le4-small l 12 b);
-      lk = λ b k q. key-small (eqb (getD l 16 0) 0) (le4 l 20) k q (omega (arith, le4-small l 20 b));
+      small = λ b. record {
+        number = omega (arith, le4-small l 4 b);
+        unit = omega (arith, le4-small l 12 b);
+        lk = λ k q. key-small (eqb (getD l 16 0) 0) (le4 l 20) k q (omega (arith, le4-small l 20 b));
+      };
     })
 
 -- what a log says of the bytes l that it was read off
@@ -201,7 +201,7 @@ log-of l c rs top rest =
       whole = top .front
           ∙ ap (λ (x : List ℕ). encodeCheck c ++ x) (rw (q, n) at (rest .whole))
           ∙ sym (append-assoc (encodeCheck c) (encodeAll (c .number + 1) rs) (zeroes (length l - (atEnd g) .at)));
-      good = λ b. record { number = top .number b; unit = top .unit b; lk = top .lk b; valid = rest .valid (bytes-drop 24 l b) };
+      good = λ b. record { top = top .small b; valid = rest .valid (bytes-drop 24 l b) };
     }
 
 pub readLog-facts : (l : List ℕ) (g : Log) → readLog l ≡ some g → ReadLog l g

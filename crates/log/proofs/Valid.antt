@@ -47,11 +47,15 @@ pub data Valid : State → List Rec → Type 0 where
   nil : {s : State} → Valid s []
   cons : {s : State} {r : Rec} {rs : List Rec} → Fits s r → Valid (after s r) rs → Valid s (r ∷ rs)
 
--- a log whose numbers fit their bytes and whose records each may come next
+-- a check record whose numbers fit four bytes
+pub record Small (c : Check) : Type 0 where
+  pub number : c .number ≤ most4
+  pub unit : c .unit ≤ most4
+  pub lk : (k : ℕ) → c .lk ≡ some k → k ≤ most4
+
+-- a log whose records each may come next
 pub record Good (g : Log) : Type 0 where
-  pub number : g .top .number ≤ most4
-  pub unit : g .top .unit ≤ most4
-  pub lk : (k : ℕ) → g .top .lk ≡ some k → k ≤ most4
+  pub top : Small (g .top)
   pub valid : Valid (first (g .top)) (g .recs)
 
 -- ---- a record that fits can be written

@@ -25,7 +25,7 @@ use Rattle.log.specs.Log.{Open, State, first, after, within, beginOk, re
 use Rattle.log.proofs.Record.{Sized, length-fields, length-encodeCheck, length-encode, encode-first}
 use Rattle.log.proofs.State.{sizes, Every, sizes-least, length-encodeAll}
 use Rattle.log.proofs.Begin.{Limits, within-head, within-tail, beginOk-limits, beginOk-bases, beginOk-leaves}
-use Rattle.log.proofs.Valid.{Moved, Does, does-out, does-in, does-point, does-close, Follows, begins, goes, Fits, Valid, Good, follows-sized, valid-sized}
+use Rattle.log.proofs.Valid.{Moved, Does, does-out, does-in, does-point, does-close, Follows, begins, goes, Fits, Valid, Small, Good, follows-sized, valid-sized}
 use Rattle.log.proofs.Append.{grown, put-grown, good-grown}
 
 -- ---- a begin record
@@ -161,12 +161,12 @@ module _ (c : Check) (rest : List ℕ) where
   unfolding encodeCheck header bytes2 bytes4
   check-lk h = rw (← le4-drop 16 4 (encodeCheck c ++ rest)) (lk-front (c .lk) rest h)
 
-  pub readCheck-encode : c .number ≤ most4 → c .unit ≤ most4 → ((k : ℕ) → c .lk ≡ some k → k ≤ most4) → readCheck (encodeCheck c ++ rest) ≡ some c
+  pub readCheck-encode : Small c → readCheck (encodeCheck c ++ rest) ≡ some c
   unfolding readCheck
-  readCheck-encode p q h =
+  readCheck-encode h =
       let l : List ℕ = encodeCheck c ++ rest in
       let d : Check = record { number = le4 l 4; unit = le4 l 12; lk = pick (eqb (getD l 16 0) 0) none (some (le4 l 20)) } in
-      let e : d ≡ c = λ i. record { number = check-number p i; unit = check-unit q i; lk = check-lk h i } in
+      let e : d ≡ c = λ i. record { number = check-number (h .number) i; unit = check-unit (h .unit) i; lk = check-lk (h .lk) i } in
       ap (λ (x : Check). when (starts (encodeCheck x) l) x) e ∙ when-true (starts (encodeCheck c) l) c (starts-append (encodeCheck c) rest)
 
 pub readLog-encode : (g : Log) (k : ℕ) → Good g → readLog (encodeLog g ++ zeroes k) ≡ some g
@@ -181,7 +181,7 @@ readLog-encode g k h =
     let f : length rs < length (a ++ l) = omega (arith, length-append a l, sizes-least rs) in
     let all : readRecs (length (a ++ l)) (first c) l ≡ some rs = readRecs-encodeAll (length (a ++ l)) k (h .valid) f in
     rw (append-assoc a (encodeAll (c .number + 1) rs) (zeroes k))
-    (bind-intro (readCheck (a ++ l)) _ c (readCheck-encode c l (h .number) (h .unit) (h .lk))
+    (bind-intro (readCheck (a ++ l)) _ c (readCheck-encode c l (h .top))
     ∙ rw (drop-at a l 24 na) (bind-intro (readRecs (length (a ++ l)) (first c) l) _ rs all))
 
 -- a record written at the end of a good log is read with the log

@@ -84,7 +84,6 @@ endingAt-take f at n (suc m) (r ∷ rs) h e =
     ∙ endingAt-take f (at + size r) (n + 1) m rs (omega arith) (omega arith)
     ∙ ap some q
 
--- an offset has one number
 pub endingAt-of : (f at n : ℕ) (rs : List Rec) (v : ℕ) → Ends f at n rs v → endingAt f at n rs ≡ some v
 endingAt-of f at n rs v e = endingAt-take f at n (e .count) rs (e .among) (e .place) ∙ ap some (sym (e .number))
 
@@ -93,6 +92,10 @@ endingAt-of f at n rs v e = endingAt-take f at n (e .count) rs (e .among) (e .pl
 pub lastForced-facts : (f : ℕ) (g : Log) (v : ℕ) → lastForced f g ≡ some v → Ends f 24 (g .top .number) (g .recs) v
 unfolding lastForced lengthOf
 lastForced-facts f g v e = endingAt-facts f 24 (g .top .number) (g .recs) v e
+
+pub lastForced-of : (f : ℕ) (g : Log) (v : ℕ) → Ends f 24 (g .top .number) (g .recs) v → lastForced f g ≡ some v
+unfolding lastForced lengthOf
+lastForced-of f g v e = endingAt-of f 24 (g .top .number) (g .recs) v e
 
 pub lastForced-take : (g : Log) (m : ℕ) → m ≤ length (g .recs) → lastForced (24 + sizes (take m (g .recs))) g ≡ some (g .top .number + m)
 unfolding lastForced lengthOf

@@ -7,3 +7,4 @@ pub mod Read
 pub mod Append
 pub mod Write
 pub mod Ends
+pub mod Cut

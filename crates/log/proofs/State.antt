@@ -26,6 +26,11 @@ pub every-append : {P : Rec → Type 0} {a b : List Rec} → Every P a → Every
 every-append nil q = q
 every-append (cons h p) q = cons h (every-append p q)
 
+pub every-take : {P : Rec → Type 0} {a : List Rec} (m : ℕ) → Every P a → Every P (take m a)
+every-take zero p = nil
+every-take (suc m) nil = nil
+every-take (suc m) (cons h p) = cons h (every-take m p)
+
 -- ---- sizes
 
 pub sizes-append : (a b : List Rec) → sizes (a ++ b) ≡ sizes a + sizes b

@@ -8,3 +8,4 @@ pub mod Append
 pub mod Write
 pub mod Ends
 pub mod Cut
+pub mod Sound

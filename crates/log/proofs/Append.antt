@@ -5,15 +5,18 @@ use native.Mathlib.Nat.{add-zero, zero-add}
 use native.Mathlib.Omega.{arith}
 use mathlib.Core.Path.{_≡_, refl, sym, ap, _∙_}
 use mathlib.Core.List.{List, [], _∷_, _++_, append-assoc, append-nil}
+use mathlib.Core.Option.{some}
 use lib.ListN.{length, take, drop, length-append}
-use Rattle.field.specs.Bytes.{put, zeroes}
+use Rattle.field.specs.Bytes.{put, zeroes, Bytes}
 use Rattle.field.proofs.Part.{put-past}
 use Rattle.field.proofs.Zero.{drop-zeroes}
 use Rattle.log.specs.Record.{Check, Rec, size, encodeCheck, encode, encodeAll}
-use Rattle.log.specs.Log.{State, first, after, afterAll, Log, atEnd, encodeLog}
+use Rattle.log.specs.Log.{State, first, after, afterAll, Log, readLog, atEnd, encodeLog}
 use Rattle.log.proofs.Record.{Sized, length-encode}
 use Rattle.log.proofs.State.{sizes, Every, afterAll-append, encodeAll-append, number-atEnd, length-encodeLog}
 use Rattle.log.proofs.Valid.{Fits, Valid, Good, follows-sized, valid-sized, valid-append}
+use Rattle.log.proofs.Read.{ReadLog, readLog-facts}
+use Rattle.log.proofs.Write.{readLog-encode}
 
 -- the log with one record more
 abbrev pub grown : Log → Rec → Log
@@ -51,3 +54,22 @@ put-grown g r n h k =
 pub good-grown : (g : Log) (r : Rec) → Good g → Fits (atEnd g) r → Good (grown g r)
 unfolding atEnd
 good-grown g r h f = record { top = h .top; valid = valid-append (r ∷ []) (h .valid) (Valid.cons f Valid.nil) }
+
+-- a record written at the end of a good log is read with the log
+pub readLog-grown : (g : Log) (r : Rec) (n : ℕ) → Good g → Fits (atEnd g) r
+    → readLog (put ((atEnd g) .at) (encode ((atEnd g) .number + 1) r) (encodeLog g ++ zeroes (n - (atEnd g) .at))) ≡ some (grown g r)
+readLog-grown g r n h f =
+    rw (put-grown g r n (valid-sized (h .valid)) (follows-sized (f .follows))) (readLog-encode (grown g r) (n - ((atEnd g) .at + size r)) (good-grown g r h f))
+
+-- the same of the bytes l that the log was read off: what they become, and what is read of that
+pub put-read : (l : List ℕ) (g : Log) (r : Rec) → readLog l ≡ some g → Sized r
+    → put ((atEnd g) .at) (encode ((atEnd g) .number + 1) r) l ≡ encodeLog (grown g r) ++ zeroes (length l - ((atEnd g) .at + size r))
+put-read l g r e h =
+    let f : ReadLog l g = readLog-facts l g e in
+    ap (put ((atEnd g) .at) (encode ((atEnd g) .number + 1) r)) (f .whole) ∙ put-grown g r (length l) (f .sized) h
+
+pub readLog-put : (l : List ℕ) (g : Log) (r : Rec) → Bytes l → readLog l ≡ some g → Fits (atEnd g) r
+    → readLog (put ((atEnd g) .at) (encode ((atEnd g) .number + 1) r) l) ≡ some (grown g r)
+readLog-put l g r b e f =
+    rw (put-read l g r e (follows-sized (f .follows)))
+    (readLog-encode (grown g r) (length l - ((atEnd g) .at + size r)) (good-grown g r (readLog-facts l g e .good b) f))

@@ -4,9 +4,10 @@ use Prim.Native.Nat.{ℕ, zero, suc, _+_, _-_, _*_, _≤_, _<_}
 use native.Mathlib.Omega.{arith}
 use mathlib.Core.Path.{_≡_, refl, sym, ap, _∙_, subst}
 use mathlib.Core.Bool.{Bool, true, false}
-use mathlib.Core.List.{List, [], _∷_, _++_, append-assoc}
+use mathlib.Core.List.{List, [], _∷_, _++_, reverse, reverseAux, reverseAux-eq}
 use mathlib.Core.Option.{Option, some, none, Option·some-injective, Option·none-ne-some}
-use lib.ListN.{length, drop, getD}
+use lib.ListN.{length, drop, getD, length-reverse}
+use lib.Seq.{drop-at}
 use lib.Dec.{eqb, leb}
 use Rattle.field.specs.Test.{pick, given, bind}
 use Rattle.field.specs.Bytes.{Bytes, most4}
@@ -14,79 +15,13 @@ use Rattle.field.proofs.Number.{le4-small}
 use Rattle.page.specs.Page.{keyOf}
 use Rattle.page.proofs.Rows.{Each}
 use Rattle.log.specs.Record.{Check, Begin, Rec, LB, LO, LI, LM, LE, carried}
-use Rattle.log.specs.Plan.{Step, takeOut, bringIn, point, close, gather, removals, others, replacing, compactPlan, movePlan, swapPlan, plan}
-use Rattle.log.specs.Log.{Open, State, first, largest, largestMoved, lkEnded, going, openedBy, lkBy, unitBy, after, afterAll, Log, atEnd}
+use Rattle.log.specs.Plan.{Step, takeOut, bringIn, point, close, plan}
+use Rattle.log.specs.Log.{Open, State, first, largest, largestMoved, lkEnded, going, openedBy, lkBy, unitBy, after, afterAll, beginOk, taken, Log, atEnd}
 use Rattle.log.proofs.Record.{Narrow}
 use Rattle.log.proofs.State.{Every}
 use Rattle.log.proofs.Begin.{beginOk-unit}
-use Rattle.log.proofs.Valid.{Does, does-out, does-in, does-point, does-close, Follows, begins, goes, Fits, Valid, Small, Good, follows-narrow}
-
--- ---- the steps of a unit: any but LE, then LE
-
-pub data Works : Step → Type 0 where
-  works-out : {org dest : ℕ} → Works (takeOut org dest)
-  works-in : {org dest back : ℕ} → Works (bringIn org dest back)
-  works-point : {base old new : ℕ} {other : Bool} → Works (point base old new other)
-
-pub data Ending (u : ℕ) : List Step → Type 0 where
-  last : Ending u (close u ∷ [])
-  more : {x : Step} {xs : List Step} → Works x → Ending u xs → Ending u (x ∷ xs)
-
--- after a step but LE, an end to the unit still comes
-pub ending-rest : {u : ℕ} {x : Step} {xs : List Step} → Works x → Ending u (x ∷ xs) → Ending u xs
-ending-rest works-out (more w e) = e
-ending-rest works-in (more w e) = e
-ending-rest works-point (more w e) = e
-
-module _ {u : ℕ} where
-  pick-on : (t : Bool) (a b xs : List Step) → Ending u (a ++ xs) → Ending u (b ++ xs) → Ending u (pick t a b ++ xs)
-  unfolding pick
-  pick-on true a b xs p q = p
-  pick-on false a b xs p q = q
-
-  gather-on : (dest : ℕ) (ps : List ℕ) (xs : List Step) → Ending u xs → Ending u (gather dest ps ++ xs)
-  unfolding gather
-  gather-on dest [] xs e = e
-  gather-on dest (p ∷ ps) xs e =
-      let rest = gather-on dest ps xs e in
-      pick-on (eqb p dest) (gather dest ps) (takeOut p dest ∷ bringIn p dest 1 ∷ gather dest ps) xs rest (more works-out (more works-in rest))
-
-  removals-on : (base : ℕ) (ps : List ℕ) (xs : List Step) → Ending u xs → Ending u (removals base ps ++ xs)
-  unfolding removals
-  removals-on base [] xs e = e
-  removals-on base (p ∷ ps) xs e = more works-point (removals-on base ps xs e)
-
-  compact-on : (base dest : ℕ) (leaves : List ℕ) (xs : List Step) → Ending u xs → Ending u (compactPlan base dest leaves ++ xs)
-  unfolding compactPlan replacing
-  compact-on base dest leaves xs e =
-      let c : ℕ = getD leaves 0 0 in
-      let a : List Step = gather dest leaves in
-      let b : List Step = pick (eqb c dest) [] (point base c dest false ∷ []) in
-      let d : List Step = removals base (others leaves) in
-      let r : Ending u (d ++ xs) = removals-on base (others leaves) xs e in
-      rw (append-assoc a (b ++ d) xs, append-assoc b d xs)
-      (gather-on dest leaves (b ++ (d ++ xs)) (pick-on (eqb c dest) [] (point base c dest false ∷ []) (d ++ xs) r (more works-point r)))
-
-  move-on : (base org dest : ℕ) (xs : List Step) → Ending u xs → Ending u (movePlan base org dest ++ xs)
-  unfolding movePlan
-  move-on base org dest xs e = more works-out (more works-in (more works-point e))
-
-  swap-on : (p q a b : ℕ) (xs : List Step) → Ending u xs → Ending u (swapPlan p q a b ++ xs)
-  unfolding swapPlan
-  swap-on p q a b xs e = more works-out (more works-out (more works-in (more works-in (more works-point (more works-point e)))))
-
--- a plan ends its unit, at its end
-pub plan-ending : (g : Begin) → Ending (g .unit) (plan g)
-unfolding plan
-plan-ending g =
-    let p : ℕ = getD (g .bases) 0 0 in
-    let q : ℕ = getD (g .bases) 1 p in
-    let a : ℕ = getD (g .leaves) 0 0 in
-    let b : ℕ = getD (g .leaves) 1 0 in
-    let xs : List Step = close (g .unit) ∷ [] in
-    pick-on (eqb (g .type) 1) (compactPlan p (g .dest) (g .leaves)) (pick (eqb (g .type) 2) (swapPlan p q a b) (movePlan p a (g .dest))) xs
-    (compact-on p (g .dest) (g .leaves) xs last)
-    (pick-on (eqb (g .type) 2) (swapPlan p q a b) (movePlan p a (g .dest)) xs (swap-on p q a b xs last) (move-on p a (g .dest) xs last))
+use Rattle.log.proofs.Plan.{Works, works-out, works-in, works-point, Ending, Fed, ending-rest, fed-rest, plan-ending, plan-fed}
+use Rattle.log.proofs.Valid.{Moved, Does, does-out, does-in, does-point, does-close, Follows, begins, goes, Fits, Valid, Small, Good, does-narrow}
 
 -- ---- the largest key moved
 
@@ -115,13 +50,71 @@ unfolding largestMoved
 largestMoved-most m h Every.nil = h
 largestMoved-most m h (Every.cons {r = r} n p) = largestMoved-most (largest m (carried r)) (largest-most m h (carried-bytes r n)) p
 
--- ---- the states
+-- ---- the open unit
 
--- an open unit, of this number
+-- the records did, the latest first, do the steps past
+pub data Done : List Step → List Rec → Type 0 where
+  nil : Done [] []
+  cons : {x : Step} {past : List Step} {r : Rec} {did : List Rec} → Does did x r → Done past did → Done (x ∷ past) (r ∷ did)
+
+-- an open unit of this number: the steps that it did and those to come are its plan
 pub record Awaits (u : ℕ) (o : Open) : Type 0 where
   pub start : o .start .unit ≡ u
-  pub did : Every Narrow (o .did)
+  pub ok : beginOk (o .start) ≡ true
+  pub past : List Step
+  pub done : Done past (o .did)
+  pub whole : reverseAux past (o .todo) ≡ plan (o .start)
+  pub fed : Fed past (o .todo)
   pub todo : Ending u (o .todo)
+
+done-narrow : {past : List Step} {did : List Rec} → Done past did → Every Narrow did
+done-narrow nil = Every.nil
+done-narrow (cons d p) = Every.cons (does-narrow d) (done-narrow p)
+
+done-length : {past : List Step} {did : List Rec} → Done past did → length past ≡ length did
+done-length nil = refl
+done-length (cons d p) = ap suc (done-length p)
+
+-- the steps to come are what the plan has behind the steps done
+pub awaits-todo : {u : ℕ} {o : Open} → Awaits u o → o .todo ≡ drop (length (o .did)) (plan (o .start))
+awaits-todo {u} {o} a =
+    rw (← a .whole, reverseAux-eq (a .past) (o .todo))
+    (sym (drop-at (reverse (a .past)) (o .todo) (length (o .did)) (length-reverse (a .past) ∙ done-length (a .done))))
+
+-- the LO that stands so many records back took out these pages
+pub record Source (did : List Rec) (i org dest : ℕ) : Type 0 where
+  pub rows : List (List ℕ)
+  pub lo : getD did i (LE 0) ≡ LO org dest rows
+  pub moved : Moved rows
+
+source-here : {did rest : List Rec} {x : Step} {r : Rec} (org dest : ℕ) → Does did x r → x ≡ takeOut org dest → Source (r ∷ rest) 0 org dest
+source-here org dest (does-out {org = p} {dest = q} {rs = rs} m) e =
+    let a : p ≡ org = cc in
+    let b : q ≡ dest = cc in
+    record { rows = rs; lo = rw (a, b); moved = m }
+source-here org dest (does-in q) e = let z : _≡_ {A = ℕ} 0 1 = cc in absurd (omega arith)
+source-here org dest (does-point h) e = let z : _≡_ {A = ℕ} 0 1 = cc in absurd (omega arith)
+source-here org dest does-close e = let z : _≡_ {A = ℕ} 0 1 = cc in absurd (omega arith)
+
+source-at : {past : List Step} {did : List Rec} (i org dest : ℕ) → Done past did → getD past i (close 0) ≡ takeOut org dest → Source did i org dest
+source-at i org dest nil e = let z : _≡_ {A = ℕ} 0 1 = cc in absurd (omega arith)
+source-at zero org dest (cons d p) e = source-here org dest d e
+source-at (suc i) org dest (cons d p) e =
+    let s = source-at i org dest p e in
+    record { rows = s .rows; lo = s .lo; moved = s .moved }
+
+-- an LI to come has its LO among the unit's records
+pub awaits-source : {u : ℕ} {o : Open} {org dest back : ℕ} {xs : List Step} → Awaits u o → o .todo ≡ bringIn org dest back ∷ xs
+    → Source (o .did) (back - 1) org dest
+awaits-source {org = org} {dest = dest} {back = back} a e = source-at (back - 1) org dest (a .done) (subst (Fed (a .past)) e (a .fed) .0)
+
+-- so what it brings in is what an LO moved
+pub awaits-moved : {u : ℕ} {o : Open} {org dest back : ℕ} {xs : List Step} → Awaits u o → o .todo ≡ bringIn org dest back ∷ xs
+    → Moved (taken back (o .did))
+unfolding taken carried
+awaits-moved a e = let s = awaits-source a e in rw (s .lo) (s .moved)
+
+-- ---- the states
 
 pub data Waits (u : ℕ) : Option Open → Type 0 where
   shut : Waits u none
@@ -137,17 +130,26 @@ pub record Sound (s : State) : Type 0 where
 pub waits-open : {u : ℕ} {o : Open} → Waits u (some o) → Awaits u o
 waits-open (open-unit a) = a
 
-waits-going : {u : ℕ} {o : Open} {x : Step} {xs : List Step} (r : Rec) → Works x → o .todo ≡ x ∷ xs → Narrow r → Awaits u o → Awaits u (going r o)
+waits-going : {u : ℕ} {o : Open} {x : Step} {xs : List Step} {r : Rec} → Works x → o .todo ≡ x ∷ xs → Does (o .did) x r → Awaits u o → Awaits u (going r o)
 unfolding going
-waits-going {u} r w e n a =
-    record { start = a .start; did = Every.cons n (a .did); todo = rw e (ending-rest w (subst (Ending u) e (a .todo))) }
+waits-going {u} {o} {x} {xs} w e d a =
+    record {
+      start = a .start;
+      ok = a .ok;
+      past = x ∷ a .past;
+      done = cons d (a .done);
+      whole = rw e (rw e at (a .whole));
+      fed = rw e (fed-rest (a .past) xs w (subst (Fed (a .past)) e (a .fed)));
+      todo = rw e (ending-rest w (subst (Ending u) e (a .todo)));
+    }
 
 waits-after : {u : ℕ} {o : Option Open} {r : Rec} → Follows u o r → Waits u o → Waits (unitBy r u) (openedBy r o)
 unfolding unitBy openedBy bind
-waits-after (begins {g = g} e ok) w = open-unit (record { start = refl; did = Every.nil; todo = plan-ending g })
-waits-after (goes e (does-out m)) w = open-unit (waits-going _ works-out e (m .bytes) (waits-open w))
-waits-after (goes e (does-in q)) w = open-unit (waits-going _ works-in e tt (waits-open w))
-waits-after (goes e (does-point h)) w = open-unit (waits-going _ works-point e tt (waits-open w))
+waits-after (begins {g = g} e ok) w =
+    open-unit (record { start = refl; ok = ok; past = []; done = nil; whole = refl; fed = plan-fed g; todo = plan-ending g })
+waits-after (goes e (does-out m)) w = open-unit (waits-going works-out e (does-out m) (waits-open w))
+waits-after (goes e (does-in q)) w = open-unit (waits-going works-in e (does-in q) (waits-open w))
+waits-after (goes e (does-point h)) w = open-unit (waits-going works-point e (does-point h) (waits-open w))
 waits-after (goes e does-close) w = shut
 
 unit-after : {u : ℕ} {o : Option Open} {r : Rec} → Follows u o r → u ≤ most4 → unitBy r u ≤ most4
@@ -171,7 +173,7 @@ lk-after lk (goes e (does-out m)) w f k q = f k q
 lk-after lk (goes e (does-in i)) w f k q = f k q
 lk-after lk (goes e (does-point h)) w f k q = f k q
 lk-after lk (goes {o = o} e does-close) w f k q =
-    pick-key (eqb (o .start .type) 1) (largestMoved 0 (o .did)) k lk (largestMoved-most 0 (omega arith) (waits-open w .did)) f q
+    pick-key (eqb (o .start .type) 1) (largestMoved 0 (o .did)) k lk (largestMoved-most 0 (omega arith) (done-narrow (waits-open w .done))) f q
 
 pub sound-first : (c : Check) → Small c → Sound (first c)
 unfolding first

@@ -60,14 +60,14 @@ pub record Good (g : Log) : Type 0 where
 
 -- ---- a record that fits can be written
 
-does-sized : {did : List Rec} {x : Step} {r : Rec} → Does did x r → Sized r
+pub does-sized : {did : List Rec} {x : Step} {r : Rec} → Does did x r → Sized r
 unfolding carried
 does-sized (does-out m) = m .long
 does-sized (does-in e) = Each.nil
 does-sized (does-point h) = Each.nil
 does-sized does-close = Each.nil
 
-does-narrow : {did : List Rec} {x : Step} {r : Rec} → Does did x r → Narrow r
+pub does-narrow : {did : List Rec} {x : Step} {r : Rec} → Does did x r → Narrow r
 does-narrow (does-out m) = m .bytes
 does-narrow (does-in e) = tt
 does-narrow (does-point h) = tt

@@ -26,7 +26,6 @@ use Rattle.log.proofs.Record.{Sized, length-fields, length-encodeCheck,
 use Rattle.log.proofs.State.{sizes, Every, sizes-least, length-encodeAll}
 use Rattle.log.proofs.Begin.{Limits, within-head, within-tail, beginOk-limits, beginOk-bases, beginOk-leaves}
 use Rattle.log.proofs.Valid.{Moved, Does, does-out, does-in, does-point, does-close, Follows, begins, goes, Fits, Valid, Small, Good, follows-sized, valid-sized}
-use Rattle.log.proofs.Append.{grown, put-grown, good-grown}
 
 -- ---- a begin record
 
@@ -183,9 +182,3 @@ readLog-encode g k h =
     rw (append-assoc a (encodeAll (c .number + 1) rs) (zeroes k))
     (bind-intro (readCheck (a ++ l)) _ c (readCheck-encode c l (h .top))
     ∙ rw (drop-at a l 24 na) (bind-intro (readRecs (length (a ++ l)) (first c) l) _ rs all))
-
--- a record written at the end of a good log is read with the log
-pub readLog-grown : (g : Log) (r : Rec) (n : ℕ) → Good g → Fits (atEnd g) r
-    → readLog (put ((atEnd g) .at) (encode ((atEnd g) .number + 1) r) (encodeLog g ++ zeroes (n - (atEnd g) .at))) ≡ some (grown g r)
-readLog-grown g r n h f =
-    rw (put-grown g r n (valid-sized (h .valid)) (follows-sized (f .follows))) (readLog-encode (grown g r) (n - ((atEnd g) .at + size r)) (good-grown g r h f))

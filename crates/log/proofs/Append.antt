@@ -1,19 +1,19 @@
 -- A log with a record more: its bytes are the log's bytes with the record written over the zeros at the log's end, and its state is
 -- the one after that record. Assumes nothing.
-use Prim.Native.Nat.{ℕ, zero, suc, _+_, _-_, _*_, _≤_, _<_}
+use Prim.Native.Nat.{ℕ, _+_, _-_}
 use native.Mathlib.Nat.{add-zero, zero-add}
 use native.Mathlib.Omega.{arith}
-use mathlib.Core.Path.{_≡_, refl, sym, ap, _∙_}
+use mathlib.Core.Path.{_≡_, sym, ap, _∙_}
 use mathlib.Core.List.{List, [], _∷_, _++_, append-assoc, append-nil}
 use mathlib.Core.Option.{some}
-use lib.ListN.{length, take, drop, length-append}
+use lib.ListN.{length}
 use Rattle.field.specs.Bytes.{put, zeroes, Bytes}
 use Rattle.field.proofs.Part.{put-past}
 use Rattle.field.proofs.Zero.{drop-zeroes}
-use Rattle.log.specs.Record.{Check, Rec, size, encodeCheck, encode, encodeAll}
-use Rattle.log.specs.Log.{State, first, after, afterAll, Log, readLog, atEnd, encodeLog}
+use Rattle.log.specs.Record.{Rec, size, encodeCheck, encode, encodeAll}
+use Rattle.log.specs.Log.{first, after, afterAll, Log, readLog, atEnd, encodeLog}
 use Rattle.log.proofs.Record.{Sized, length-encode}
-use Rattle.log.proofs.State.{sizes, Every, afterAll-append, encodeAll-append, number-atEnd, length-encodeLog}
+use Rattle.log.proofs.State.{Every, afterAll-append, encodeAll-append, number-atEnd, length-encodeLog}
 use Rattle.log.proofs.Valid.{Fits, Valid, Good, follows-sized, valid-sized, valid-append}
 use Rattle.log.proofs.Read.{ReadLog, readLog-facts}
 use Rattle.log.proofs.Write.{readLog-encode}
@@ -22,10 +22,12 @@ use Rattle.log.proofs.Write.{readLog-encode}
 abbrev pub grown : Log → Rec → Log
 grown g r = record { top = g .top; recs = g .recs ++ (r ∷ []) }
 
+-- its state is the one after that record
 pub atEnd-grown : (g : Log) (r : Rec) → atEnd (grown g r) ≡ after (atEnd g) r
 unfolding atEnd afterAll
 atEnd-grown g r = afterAll-append (first (g .top)) (g .recs) (r ∷ [])
 
+-- its bytes are the log's, then the record's
 pub encodeLog-grown : (g : Log) (r : Rec) → encodeLog (grown g r) ≡ encodeLog g ++ encode ((atEnd g) .number + 1) r
 unfolding encodeLog encodeAll
 encodeLog-grown g r =
@@ -51,6 +53,7 @@ put-grown g r n h k =
     ∙ put-past (encodeLog g) e (zeroes (n - a)) a 0 (length-encodeLog g h)
     ∙ rw (put-zeroes e (n - a), length-encode ((atEnd g) .number + 1) r k, q, encodeLog-grown g r) (sym (append-assoc (encodeLog g) e (zeroes (n - (a + size r)))))
 
+-- with a record that may come next it stays good
 pub good-grown : (g : Log) (r : Rec) → Good g → Fits (atEnd g) r → Good (grown g r)
 unfolding atEnd
 good-grown g r h f = record { top = h .top; valid = valid-append (r ∷ []) (h .valid) (Valid.cons f Valid.nil) }
@@ -68,6 +71,7 @@ put-read l g r e h =
     let f : ReadLog l g = readLog-facts l g e in
     ap (put ((atEnd g) .at) (encode ((atEnd g) .number + 1) r)) (f .whole) ∙ put-grown g r (length l) (f .sized) h
 
+-- a record that may come next, written at the end of a log that was read, is read with it
 pub readLog-put : (l : List ℕ) (g : Log) (r : Rec) → Bytes l → readLog l ≡ some g → Fits (atEnd g) r
     → readLog (put ((atEnd g) .at) (encode ((atEnd g) .number + 1) r) l) ≡ some (grown g r)
 readLog-put l g r b e f =

@@ -1,16 +1,15 @@
 -- A log with only its first m records, which is what a cut leaves: it is good, its bytes are the front of the log's bytes, and it is read
 -- with zeros behind it. And how the last forced record fares when the log is cut or grows. Assumes nothing.
-use Prim.Native.Nat.{ℕ, zero, suc, _+_, _-_, _≤_, _<_, min}
-use native.Mathlib.Nat.{add-zero}
+use Prim.Native.Nat.{ℕ, _+_, _≤_}
 use native.Mathlib.Omega.{arith}
-use mathlib.Core.Path.{_≡_, refl, sym, ap, _∙_}
+use mathlib.Core.Path.{_≡_, sym, ap, _∙_}
 use mathlib.Core.List.{List, [], _∷_, _++_, append-assoc, append-nil}
-use mathlib.Core.Option.{Option, some, none, Option·some-injective}
+use mathlib.Core.Option.{some, Option·some-injective}
 use lib.ListN.{length, take, drop, take-append-drop, length-take, length-append}
 use lib.Seq.{take-at, take-take, take-append-le, take-length}
-use Rattle.field.specs.Bytes.{zeroes, most4}
+use Rattle.field.specs.Bytes.{zeroes}
 use Rattle.log.specs.Record.{Check, Rec, encodeCheck, encodeAll}
-use Rattle.log.specs.Log.{State, first, Log, readLog, atEnd, encodeLog, lastForced}
+use Rattle.log.specs.Log.{Log, readLog, atEnd, encodeLog, lastForced}
 use Rattle.log.proofs.Record.{Sized}
 use Rattle.log.proofs.State.{sizes, Every, every-take, encodeAll-append, at-atEnd, number-atEnd, length-encodeLog}
 use Rattle.log.proofs.Valid.{Valid, Small, Good, valid-take, valid-sized}
@@ -28,6 +27,7 @@ bare c = record { top = c; recs = [] }
 
 -- ---- what a cut leaves
 
+-- a cut leaves a good log
 pub good-kept : (m : ℕ) (g : Log) → Good g → Good (kept m g)
 good-kept m g h = record { top = h .top; valid = valid-take m (h .valid) }
 
@@ -58,6 +58,7 @@ at-kept m g = omega (arith, at-atEnd g, at-atEnd (kept m g), sizes-take-most m (
 
 -- ---- a new log
 
+-- a check record alone is a good log
 pub good-bare : (c : Check) → Small c → Good (bare c)
 good-bare c h = record { top = h; valid = Valid.nil }
 
@@ -69,6 +70,7 @@ readLog-bare c k h =
 
 -- ---- two good logs of the same bytes are the same
 
+-- the bytes say which log it is, whatever zeros follow
 pub encodeLog-one : (g h : Log) (j k : ℕ) → Good g → Good h → encodeLog g ++ zeroes j ≡ encodeLog h ++ zeroes k → g ≡ h
 encodeLog-one g h j k a b e = Option·some-injective g h (sym (readLog-encode g j a) ∙ ap readLog e ∙ readLog-encode h k b)
 

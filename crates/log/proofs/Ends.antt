@@ -1,22 +1,22 @@
 -- Where records end: the offset f is the end of the m-th record after `at` exactly where `endingAt` finds its number, and ends ascend,
 -- so the m is one. Assumes nothing.
-use Prim.Native.Nat.{ℕ, zero, suc, _+_, _-_, _*_, _≤_, _<_}
+use Prim.Native.Nat.{ℕ, zero, suc, _+_, _≤_, _<_}
 use native.Mathlib.Nat.{add-zero, not-suc-le-zero}
 use native.Mathlib.Omega.{arith}
 use mathlib.Core.Path.{_≡_, refl, sym, ap, _∙_}
 use mathlib.Core.Bool.{Bool, true, false}
-use mathlib.Core.List.{List, [], _∷_, _++_}
-use mathlib.Core.Option.{Option, some, none, Option·some-injective}
-use lib.ListN.{length, take, drop}
+use mathlib.Core.List.{List, [], _∷_}
+use mathlib.Core.Option.{Option, some, Option·some-injective}
+use lib.ListN.{length, take}
 use lib.Dec.{eqb}
 use borrow.Author.Tests.{eqb-true, eq-eqb, ne-eqb}
-use Rattle.field.specs.Test.{pick, when}
+use Rattle.field.specs.Test.{pick}
 use Rattle.field.proofs.Part.{split}
 use Rattle.field.proofs.Test.{pick-true, pick-false, when-some, when-true}
-use Rattle.log.specs.Record.{Rec, size, lengthOf, check}
-use Rattle.log.specs.Log.{endingAt, Log, lastForced, atEnd}
+use Rattle.log.specs.Record.{Rec, size, lengthOf}
+use Rattle.log.specs.Log.{endingAt, Log, lastForced}
 use Rattle.log.proofs.Record.{size-least}
-use Rattle.log.proofs.State.{sizes, at-atEnd}
+use Rattle.log.proofs.State.{sizes}
 
 -- ---- ends ascend
 
@@ -65,6 +65,7 @@ unfolding pick
 by-place at f n v true rest e a b = a refl (Option·some-injective n v e)
 by-place at f n v false rest e a b = b e
 
+-- what is found is the end of a record
 pub endingAt-facts : (f at n : ℕ) (rs : List Rec) (v : ℕ) → endingAt f at n rs ≡ some v → Ends f at n rs v
 unfolding endingAt
 endingAt-facts f at n [] v e = let w = when-some (eqb at f) n v e in here f at n [] v (eqb-true at f (w .0)) (w .1)
@@ -84,19 +85,23 @@ endingAt-take f at n (suc m) (r ∷ rs) h e =
     ∙ endingAt-take f (at + size r) (n + 1) m rs (omega arith) (omega arith)
     ∙ ap some q
 
+-- so the two are one
 pub endingAt-of : (f at n : ℕ) (rs : List Rec) (v : ℕ) → Ends f at n rs v → endingAt f at n rs ≡ some v
 endingAt-of f at n rs v e = endingAt-take f at n (e .count) rs (e .among) (e .place) ∙ ap some (sym (e .number))
 
 -- ---- the last forced record of a log
 
+-- the last forced record is found where a record ends
 pub lastForced-facts : (f : ℕ) (g : Log) (v : ℕ) → lastForced f g ≡ some v → Ends f 24 (g .top .number) (g .recs) v
 unfolding lastForced lengthOf
 lastForced-facts f g v e = endingAt-facts f 24 (g .top .number) (g .recs) v e
 
+-- where a record ends, it is found
 pub lastForced-of : (f : ℕ) (g : Log) (v : ℕ) → Ends f 24 (g .top .number) (g .recs) v → lastForced f g ≡ some v
 unfolding lastForced lengthOf
 lastForced-of f g v e = endingAt-of f 24 (g .top .number) (g .recs) v e
 
+-- the same by the number of records before it
 pub lastForced-take : (g : Log) (m : ℕ) → m ≤ length (g .recs) → lastForced (24 + sizes (take m (g .recs))) g ≡ some (g .top .number + m)
 unfolding lastForced lengthOf
 lastForced-take g m h = endingAt-take (24 + sizes (take m (g .recs))) 24 (g .top .number) m (g .recs) h refl

@@ -1,6 +1,6 @@
 -- What holds of the steps that a begin record gives: the last and no other ends the unit, and each LI brings in what an LO of the same
 -- pages took out before it. Assumes nothing.
-use Prim.Native.Nat.{ℕ, zero, suc, _+_, _-_}
+use Prim.Native.Nat.{ℕ, _-_}
 use mathlib.Core.Path.{_≡_, refl}
 use mathlib.Core.Bool.{Bool, true, false}
 use mathlib.Core.List.{List, [], _∷_, _++_, append-assoc}

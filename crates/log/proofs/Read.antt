@@ -1,6 +1,6 @@
 -- What is read of a log is written back to the same bytes: a record read is the record that stands there, and the records and the log
 -- read are all that stands before the zeros. Of a list of bytes, what is read is valid. Assumes nothing.
-use Prim.Native.Nat.{ℕ, zero, suc, _+_, _-_, _*_, _≤_, _<_}
+use Prim.Native.Nat.{ℕ, zero, suc, _+_, _-_, _*_, _≤_}
 use native.Mathlib.Nat.{sub-zero}
 use native.Mathlib.Omega.{arith}
 use mathlib.Core.Path.{_≡_, refl, sym, ap, _∙_, subst}
@@ -8,24 +8,24 @@ use mathlib.Core.Logic.{_⊎_, inl, inr, ⊎-elim}
 use mathlib.Core.Bool.{Bool, true, false}
 use mathlib.Core.List.{List, [], _∷_, _++_, append-assoc}
 use mathlib.Core.Option.{Option, some, none, Option·some-injective, Option·none-ne-some}
-use lib.ListN.{length, take, drop, getD, length-drop}
+use lib.ListN.{length, drop, getD, length-drop}
 use lib.Dec.{eqb, leb}
 use borrow.Author.Tests.{leb-true}
 use Rattle.field.specs.Test.{all, pick, when, bind}
 use Rattle.field.specs.Bytes.{zeroes, allZero, starts, Bytes, le2, le4, most4}
-use Rattle.field.proofs.Test.{all-head, all-tail, when-some, Bound, bind-some}
+use Rattle.field.proofs.Test.{all-head, all-tail, when-some, bind-some}
 use Rattle.field.proofs.Number.{le4-small}
 use Rattle.field.proofs.Zero.{zero-list}
 use Rattle.field.proofs.Same.{starts-eq, starts-length}
 use Rattle.field.proofs.Byte.{bytes-drop}
 use Rattle.page.specs.Page.{rowsOf, ascendRecords}
 use Rattle.page.proofs.Rows.{Each, Long, length-rowsOf, long-rowsOf, bytes-rowsOf}
-use Rattle.log.specs.Record.{check, lengthOf, kindOf, Check, Begin, Rec, LB, LO, LI, LM, LE, carried, size, encodeCheck, encode, encodeAll}
+use Rattle.log.specs.Record.{lengthOf, kindOf, Check, Begin, Rec, LB, LO, carried, size, encodeCheck, encode, encodeAll}
 use Rattle.log.specs.Plan.{Step, takeOut, bringIn, point, close}
-use Rattle.log.specs.Log.{Open, State, first, after, readBegin, beginOk, taken, planned, plannedFirst, expected, readRec, readRecs, readCheck, Log, readLog, atEnd, encodeLog}
+use Rattle.log.specs.Log.{Open, State, first, after, readBegin, beginOk, planned, plannedFirst, expected, readRec, readRecs, readCheck, Log, readLog, atEnd, encodeLog}
 use Rattle.log.proofs.Record.{Sized, length-encodeCheck, length-encode}
 use Rattle.log.proofs.State.{sizes, Every, at-atEnd}
-use Rattle.log.proofs.Valid.{Moved, Does, does-out, does-in, does-point, does-close, Follows, begins, goes, Fits, Valid, Small, Good}
+use Rattle.log.proofs.Valid.{Does, does-out, does-in, does-point, does-close, Follows, begins, goes, Fits, Valid, Small, Good}
 
 -- ---- one record
 
@@ -82,6 +82,7 @@ pub record ReadOff (s : State) (l : List ℕ) (r : Rec) : Type 0 where
   pub front : l ≡ encode (s .number + 1) r ++ drop (size r) l
   pub fits : Bytes l → Fits s r
 
+-- a record that is read stands there, all of it
 pub readRec-facts : (s : State) (l : List ℕ) (r : Rec) → readRec s l ≡ some r → ReadOff s l r
 unfolding readRec
 readRec-facts s l r e =
@@ -137,6 +138,7 @@ unfolding pick
 pick-some true x y v e = inl e
 pick-some false x y v e = inr e
 
+-- records that are read stand there, and zeros to the end
 pub readRecs-facts : (f : ℕ) (s : State) (l : List ℕ) (rs : List Rec) → readRecs f s l ≡ some rs → ReadAll s l rs
 unfolding readRecs
 readRecs-facts zero s l rs e = absurd (Option·none-ne-some rs e)
@@ -164,6 +166,7 @@ unfolding pick
 key-small true v k e h = absurd (Option·none-ne-some k e)
 key-small false v k e h = omega (arith, Option·some-injective v k e)
 
+-- a check record that is read stands there
 pub readCheck-facts : (l : List ℕ) (c : Check) → readCheck l ≡ some c → ReadTop l c
 unfolding readCheck
 readCheck-facts l c e =
@@ -204,6 +207,7 @@ log-of l c rs top rest =
       good = λ b. record { top = top .small b; valid = rest .valid (bytes-drop 24 l b) };
     }
 
+-- a log that is read stands there, and zeros to the end
 pub readLog-facts : (l : List ℕ) (g : Log) → readLog l ≡ some g → ReadLog l g
 unfolding readLog lengthOf
 readLog-facts l g e =

@@ -1,11 +1,11 @@
 -- What holds at every state of a good log: its numbers fit four bytes, so that a checkpoint can write them, and an open unit has steps to
 -- come, of which the last and no other ends it. Assumes nothing.
-use Prim.Native.Nat.{ℕ, zero, suc, _+_, _-_, _*_, _≤_, _<_}
+use Prim.Native.Nat.{ℕ, zero, suc, _-_, _≤_}
 use native.Mathlib.Omega.{arith}
 use mathlib.Core.Path.{_≡_, refl, sym, ap, _∙_, subst}
 use mathlib.Core.Bool.{Bool, true, false}
-use mathlib.Core.List.{List, [], _∷_, _++_, reverse, reverseAux, reverseAux-eq}
-use mathlib.Core.Option.{Option, some, none, Option·some-injective, Option·none-ne-some}
+use mathlib.Core.List.{List, [], _∷_, reverse, reverseAux, reverseAux-eq}
+use mathlib.Core.Option.{Option, some, none, Option·some-injective}
 use lib.ListN.{length, drop, getD, length-reverse}
 use lib.Seq.{drop-at}
 use lib.Dec.{eqb, leb}
@@ -14,8 +14,8 @@ use Rattle.field.specs.Bytes.{Bytes, most4}
 use Rattle.field.proofs.Number.{le4-small}
 use Rattle.page.specs.Page.{keyOf}
 use Rattle.page.proofs.Rows.{Each}
-use Rattle.log.specs.Record.{Check, Begin, Rec, LB, LO, LI, LM, LE, carried}
-use Rattle.log.specs.Plan.{Step, takeOut, bringIn, point, close, plan}
+use Rattle.log.specs.Record.{Check, Rec, LB, LO, LI, LM, LE, carried}
+use Rattle.log.specs.Plan.{Step, takeOut, bringIn, close, plan}
 use Rattle.log.specs.Log.{Open, State, first, largest, largestMoved, lkEnded, going, openedBy, lkBy, unitBy, after, afterAll, beginOk, taken, Log, atEnd}
 use Rattle.log.proofs.Record.{Narrow}
 use Rattle.log.proofs.State.{Every}
@@ -30,6 +30,7 @@ unfolding pick
 pick-most true a b p q = p
 pick-most false a b p q = q
 
+-- the largest key of rows fits four bytes
 pub largest-most : (m : ℕ) {rs : List (List ℕ)} → m ≤ most4 → Each Bytes rs → largest m rs ≤ most4
 unfolding largest keyOf
 largest-most m h Each.nil = h
@@ -45,6 +46,7 @@ carried-bytes (LI org dest back rs) h = Each.nil
 carried-bytes (LM base old new key) h = Each.nil
 carried-bytes (LE unit) h = Each.nil
 
+-- so does the largest that LOs moved
 pub largestMoved-most : (m : ℕ) {did : List Rec} → m ≤ most4 → Every Narrow did → largestMoved m did ≤ most4
 unfolding largestMoved
 largestMoved-most m h Every.nil = h
@@ -175,10 +177,12 @@ lk-after lk (goes e (does-point h)) w f k q = f k q
 lk-after lk (goes {o = o} e does-close) w f k q =
     pick-key (eqb (o .start .type) 1) (largestMoved 0 (o .did)) k lk (largestMoved-most 0 (omega arith) (done-narrow (waits-open w .done))) f q
 
+-- the state after a check record is sound
 pub sound-first : (c : Check) → Small c → Sound (first c)
 unfolding first
 sound-first c h = record { number = h .number; unit = h .unit; lk = h .lk; waits = shut }
 
+-- a record that may come next leaves a sound state
 pub sound-after : {s : State} {r : Rec} → Sound s → Fits s r → Sound (after s r)
 unfolding after
 sound-after {s} h f =
@@ -189,6 +193,7 @@ sound-after {s} h f =
       waits = waits-after (f .follows) (h .waits);
     }
 
+-- and so do many
 pub sound-afterAll : {s : State} {rs : List Rec} → Sound s → Valid s rs → Sound (afterAll s rs)
 unfolding afterAll
 sound-afterAll h Valid.nil = h

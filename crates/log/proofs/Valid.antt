@@ -1,12 +1,11 @@
 -- Which record may come next after a state, chains of such records, and logs made of one: the logs that recovery accepts and that the
 -- calls write. Assumes nothing.
-use Prim.Native.Nat.{ℕ, zero, suc, _+_, _≤_, _<_}
-use native.Mathlib.Omega.{arith}
-use mathlib.Core.Path.{_≡_, refl, sym, ap, _∙_}
-use mathlib.Core.Bool.{Bool, true, false}
+use Prim.Native.Nat.{ℕ, zero, suc, _+_, _≤_}
+use mathlib.Core.Path.{_≡_}
+use mathlib.Core.Bool.{Bool, true}
 use mathlib.Core.List.{List, [], _∷_, _++_}
 use mathlib.Core.Option.{Option, some, none}
-use lib.ListN.{length, take, drop}
+use lib.ListN.{length, take}
 use Rattle.field.specs.Bytes.{Bytes, most4}
 use Rattle.page.specs.Page.{ascendRecords}
 use Rattle.page.proofs.Rows.{Each, Long}
@@ -60,6 +59,7 @@ pub record Good (g : Log) : Type 0 where
 
 -- ---- a record that fits can be written
 
+-- a record that does a step has rows of 16 bytes
 pub does-sized : {did : List Rec} {x : Step} {r : Rec} → Does did x r → Sized r
 unfolding carried
 does-sized (does-out m) = m .long
@@ -67,41 +67,49 @@ does-sized (does-in e) = Each.nil
 does-sized (does-point h) = Each.nil
 does-sized does-close = Each.nil
 
+-- and fits its bytes
 pub does-narrow : {did : List Rec} {x : Step} {r : Rec} → Does did x r → Narrow r
 does-narrow (does-out m) = m .bytes
 does-narrow (does-in e) = tt
 does-narrow (does-point h) = tt
 does-narrow does-close = tt
 
+-- so has a record that may come next
 pub follows-sized : {u : ℕ} {o : Option Open} {r : Rec} → Follows u o r → Sized r
 unfolding carried
 follows-sized (begins e ok) = Each.nil
 follows-sized (goes e d) = does-sized d
 
+-- and fits its bytes
 pub follows-narrow : {u : ℕ} {o : Option Open} {r : Rec} → Follows u o r → Narrow r
 follows-narrow (begins {g = g} e ok) = beginOk-narrow g ok
 follows-narrow (goes e d) = does-narrow d
 
+-- so have all of a chain
 pub valid-sized : {s : State} {rs : List Rec} → Valid s rs → Every Sized rs
 valid-sized nil = Every.nil
 valid-sized (cons f v) = Every.cons (follows-sized (f .follows)) (valid-sized v)
 
+-- and fit their bytes
 pub valid-narrow : {s : State} {rs : List Rec} → Valid s rs → Every Narrow rs
 valid-narrow nil = Every.nil
 valid-narrow (cons f v) = Every.cons (follows-narrow (f .follows)) (valid-narrow v)
 
 -- ---- beginnings of a chain, and chains one after the other
 
+-- every beginning of a chain is a chain
 pub valid-take : {s : State} {rs : List Rec} (m : ℕ) → Valid s rs → Valid s (take m rs)
 valid-take zero v = nil
 valid-take (suc m) nil = nil
 valid-take (suc m) (cons f v) = cons f (valid-take m v)
 
+-- a chain, then one from where it led
 pub valid-append : {s : State} {a : List Rec} (b : List Rec) → Valid s a → Valid (afterAll s a) b → Valid s (a ++ b)
 unfolding afterAll
 valid-append b nil w = w
 valid-append b (cons f v) w = cons f (valid-append b v w)
 
+-- and back
 pub valid-split : (s : State) (a b : List Rec) → Valid s (a ++ b) → Valid s a × Valid (afterAll s a) b
 unfolding afterAll
 valid-split s [] b v = (nil, v)

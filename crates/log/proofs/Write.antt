@@ -1,31 +1,31 @@
 -- What is written is read: a record that may come next, records each of which may, and a good log, whatever zeros follow.
 -- Assumes nothing.
-use Prim.Native.Nat.{ℕ, zero, suc, _+_, _-_, _*_, _≤_, _<_}
+use Prim.Native.Nat.{ℕ, zero, suc, _+_, _≤_, _<_}
 use native.Mathlib.Nat.{not-suc-le-zero}
 use native.Mathlib.Omega.{arith}
 use mathlib.Core.Path.{_≡_, refl, sym, ap, ap₂, _∙_}
-use mathlib.Core.Bool.{Bool, true, false}
+use mathlib.Core.Bool.{true}
 use mathlib.Core.List.{List, [], _∷_, _++_, append-assoc}
 use mathlib.Core.Option.{Option, some, none}
-use lib.ListN.{length, take, drop, getD, length-append}
+use lib.ListN.{length, drop, getD, length-append}
 use lib.Seq.{drop-drop, drop-at}
-use lib.Dec.{eqb, leb}
+use lib.Dec.{eqb}
 use borrow.Author.Tests.{eq-eqb, ne-eqb, le-leb}
-use Rattle.field.specs.Test.{all, pick, when, bind}
-use Rattle.field.specs.Bytes.{zeroes, allZero, starts, put, le2, le4, bytes2, bytes4, most4}
+use Rattle.field.specs.Test.{all, pick, when}
+use Rattle.field.specs.Bytes.{zeroes, allZero, starts, le2, le4, bytes2, bytes4, most4}
 use Rattle.field.proofs.Test.{all-nil, all-intro, pick-true, pick-false, when-true, bind-intro}
-use Rattle.field.proofs.Number.{length-bytes2, le2-drop, le4-drop, le2-bytes2, le4-bytes4}
-use Rattle.field.proofs.Zero.{all-zeroes, length-zeroes}
+use Rattle.field.proofs.Number.{le2-drop, le4-drop, le2-bytes2, le4-bytes4}
+use Rattle.field.proofs.Zero.{all-zeroes}
 use Rattle.field.proofs.Same.{starts-append}
-use Rattle.page.specs.Page.{rowsOf, joined, ascendRecords}
-use Rattle.page.proofs.Rows.{Each, Long, rowsOf-joined}
-use Rattle.log.specs.Record.{check, lengthOf, kindOf, Check, Begin, Rec, LB, LO, LI, LM, LE, size, header, fields, lkBytes, encodeCheck, newKey, body, encode, encodeAll}
-use Rattle.log.specs.Plan.{Step, takeOut, bringIn, point, close}
-use Rattle.log.specs.Log.{Open, State, first, after, within, beginOk, readFields, readBegin, planned, plannedFirst, expected, readRec, readRecs, readCheck, Log, readLog, atEnd, encodeLog}
-use Rattle.log.proofs.Record.{Sized, length-fields, length-encodeCheck, length-encode, encode-first}
-use Rattle.log.proofs.State.{sizes, Every, sizes-least, length-encodeAll}
+use Rattle.page.specs.Page.{joined}
+use Rattle.page.proofs.Rows.{rowsOf-joined}
+use Rattle.log.specs.Record.{lengthOf, Check, Begin, Rec, LB, LO, LM, size, header, fields, lkBytes, encodeCheck, newKey, body, encode, encodeAll}
+use Rattle.log.specs.Plan.{Step}
+use Rattle.log.specs.Log.{Open, State, first, after, within, beginOk, readFields, readBegin, planned, plannedFirst, expected, readRec, readRecs, readCheck, Log, readLog, encodeLog}
+use Rattle.log.proofs.Record.{length-fields, length-encodeCheck, length-encode, encode-first}
+use Rattle.log.proofs.State.{sizes, sizes-least, length-encodeAll}
 use Rattle.log.proofs.Begin.{Limits, within-head, within-tail, beginOk-limits, beginOk-bases, beginOk-leaves}
-use Rattle.log.proofs.Valid.{Moved, Does, does-out, does-in, does-point, does-close, Follows, begins, goes, Fits, Valid, Small, Good, follows-sized, valid-sized}
+use Rattle.log.proofs.Valid.{Does, does-out, does-in, does-point, does-close, Follows, begins, goes, Fits, Valid, Small, Good, follows-sized, valid-sized}
 
 -- ---- a begin record
 
@@ -61,6 +61,7 @@ module _ (n : ℕ) (g : Begin) (rest : List ℕ) (ok : beginOk g ≡ true) where
   unfolding encode header body bytes2 bytes4
   four-on = (refl, refl, refl, refl)
 
+  -- a begin record is read as it was written
   pub readBegin-encode : readBegin (g .unit) (encode n (LB g) ++ rest) ≡ g
   unfolding readBegin
   readBegin-encode =
@@ -104,6 +105,7 @@ unfolding expected plannedFirst
 expected-encode n rest (begins {g = g} e ok) = rw (← e, readBegin-encode n g rest ok) (when-true (beginOk g) (LB g) ok)
 expected-encode n rest (goes e d) = rw e (planned-encode n rest d)
 
+-- a record that may come next is read as it was written
 pub readRec-encode : (s : State) (r : Rec) (rest : List ℕ) → Fits s r → readRec s (encode (s .number + 1) r ++ rest) ≡ some r
 unfolding readRec
 readRec-encode s r rest f =
@@ -120,6 +122,7 @@ unfolding zeroes
 zeroes-first zero = refl
 zeroes-first (suc k) = refl
 
+-- a chain is read as it was written, with fuel for one record more
 pub readRecs-encodeAll : (f k : ℕ) {s : State} {rs : List Rec} → Valid s rs → length rs < f
     → readRecs f s (encodeAll (s .number + 1) rs ++ zeroes k) ≡ some rs
 unfolding readRecs encodeAll after
@@ -160,6 +163,7 @@ module _ (c : Check) (rest : List ℕ) where
   unfolding encodeCheck header bytes2 bytes4
   check-lk h = rw (← le4-drop 16 4 (encodeCheck c ++ rest)) (lk-front (c .lk) rest h)
 
+  -- a check record is read as it was written
   pub readCheck-encode : Small c → readCheck (encodeCheck c ++ rest) ≡ some c
   unfolding readCheck
   readCheck-encode h =
@@ -168,6 +172,7 @@ module _ (c : Check) (rest : List ℕ) where
       let e : d ≡ c = λ i. record { number = check-number (h .number) i; unit = check-unit (h .unit) i; lk = check-lk (h .lk) i } in
       ap (λ (x : Check). when (starts (encodeCheck x) l) x) e ∙ when-true (starts (encodeCheck c) l) c (starts-append (encodeCheck c) rest)
 
+-- a good log is read as it was written
 pub readLog-encode : (g : Log) (k : ℕ) → Good g → readLog (encodeLog g ++ zeroes k) ≡ some g
 unfolding readLog encodeLog lengthOf first
 readLog-encode g k h =

@@ -1,6 +1,6 @@
 -- A log with a record more: its bytes are the log's bytes with the record written over the zeros at the log's end, and its state is
 -- the one after that record. Assumes nothing.
-use Prim.Native.Nat.{ℕ, _+_, _-_}
+use Prim.Native.Nat.{ℕ, _+_, _-_, _≤_}
 use native.Mathlib.Nat.{add-zero, zero-add}
 use native.Mathlib.Omega.{arith}
 use mathlib.Core.Path.{_≡_, sym, ap, _∙_}
@@ -8,13 +8,14 @@ use mathlib.Core.List.{List, [], _∷_, _++_, append-assoc, append-nil}
 use mathlib.Core.Option.{some}
 use lib.ListN.{length}
 use Rattle.field.specs.Bytes.{put, zeroes, Bytes}
-use Rattle.field.proofs.Part.{put-past}
+use Rattle.field.proofs.Part.{length-put, put-past}
 use Rattle.field.proofs.Zero.{drop-zeroes}
+use Rattle.field.proofs.Byte.{bytes-put}
 use Rattle.log.specs.Record.{Rec, size, encodeCheck, encode, encodeAll}
-use Rattle.log.specs.Log.{first, after, afterAll, Log, readLog, atEnd, encodeLog}
-use Rattle.log.proofs.Record.{Sized, length-encode}
+use Rattle.log.specs.Log.{State, first, after, afterAll, Log, readLog, atEnd, encodeLog}
+use Rattle.log.proofs.Record.{Sized, length-encode, bytes-encode}
 use Rattle.log.proofs.State.{Every, afterAll-append, encodeAll-append, number-atEnd, length-encodeLog}
-use Rattle.log.proofs.Valid.{Fits, Valid, Good, follows-sized, valid-sized, valid-append}
+use Rattle.log.proofs.Valid.{Fits, Valid, Good, follows-sized, follows-narrow, valid-sized, valid-append}
 use Rattle.log.proofs.Read.{ReadLog, readLog-facts}
 use Rattle.log.proofs.Write.{readLog-encode}
 
@@ -77,3 +78,13 @@ pub readLog-put : (l : List ℕ) (g : Log) (r : Rec) → Bytes l → readLog l �
 readLog-put l g r b e f =
     rw (put-read l g r e (follows-sized (f .follows)))
     (readLog-encode (grown g r) (length l - ((atEnd g) .at + size r)) (good-grown g r (readLog-facts l g e .good b) f))
+
+-- the bytes stay bytes
+pub bytes-grown : (l : List ℕ) (s : State) (r : Rec) → Bytes l → Fits s r → Bytes (put (s .at) (encode (s .number + 1) r) l)
+bytes-grown l s r b f =
+    bytes-put (s .at) (encode (s .number + 1) r) l (bytes-encode (s .number + 1) r (follows-narrow (f .follows))) b
+
+-- and where there is room they stay as many
+pub length-grown : (l : List ℕ) (s : State) (r : Rec) → Fits s r → s .at + size r ≤ length l → length (put (s .at) (encode (s .number + 1) r) l) ≡ length l
+length-grown l s r f h =
+    length-put (s .at) (encode (s .number + 1) r) l (omega (arith, length-encode (s .number + 1) r (follows-sized (f .follows))))

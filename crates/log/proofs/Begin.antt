@@ -29,12 +29,13 @@ within-head from to p ps e =
     let f = both-2 (leb from p) (both (leb p to) (within from to ps)) e in
     (leb-true from p (both-1 (leb from p) _ e), leb-true p to (both-1 (leb p to) (within from to ps) f))
 
--- the other pages do so too
+-- the pages behind it lie there too
 pub within-tail : (from to p : ℕ) (ps : List ℕ) → within from to (p ∷ ps) ≡ true → within from to ps ≡ true
 unfolding within
 within-tail from to p ps e = both-2 (leb p to) (within from to ps) (both-2 (leb from p) (both (leb p to) (within from to ps)) e)
 
 module _ (g : Begin) where
+  -- of a compact
   compact-limits : g .type ≡ 1 → compactOk g ≡ true → Limits g
   unfolding compactOk
   compact-limits t e =
@@ -51,6 +52,7 @@ module _ (g : Begin) where
         dest = within-head 8 63 (g .dest) [] (all-head _ _ e5) .1;
       }
 
+  -- of a swap
   swap-limits : g .type ≡ 2 → swapOk g ≡ true → Limits g
   unfolding swapOk
   swap-limits t e =
@@ -66,6 +68,7 @@ module _ (g : Begin) where
         dest = omega (arith, eqb-true (g .dest) 0 (all-head _ _ e4));
       }
 
+  -- of a move
   move-limits : g .type ≡ 3 → moveOk g ≡ true → Limits g
   unfolding moveOk
   move-limits t e =
@@ -118,6 +121,6 @@ module _ (g : Begin) where
     unfolding beginOk
     beginOk-leaves = all-head _ _ (all-tail _ _ (all-tail _ _ (all-tail _ _ (all-tail _ _ ok))))
 
-    -- so it can be written
+    -- a begin record fits its bytes
     pub beginOk-narrow : Narrow (LB g)
     beginOk-narrow = let m : Limits g = beginOk-limits in (omega arith, omega arith, omega arith, omega arith)

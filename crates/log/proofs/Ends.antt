@@ -50,27 +50,29 @@ pub record Ends (f at n : ℕ) (rs : List Rec) (v : ℕ) : Type 0 where
   pub place : f ≡ at + sizes (take count rs)
   pub number : v ≡ n + count
 
+-- an end at the front
 here : (f at n : ℕ) (rs : List Rec) (v : ℕ) → at ≡ f → n ≡ v → Ends f at n rs v
 unfolding sizes
 here f at n rs v e q = record { count = 0; among = omega arith; place = omega arith; number = omega arith }
 
+-- an end behind the first record
 further : (f at n : ℕ) (r : Rec) (rs : List Rec) (v : ℕ) → Ends f (at + size r) (n + 1) rs v → Ends f at n (r ∷ rs) v
 unfolding sizes
 further f at n r rs v e =
     record { count = suc (e .count); among = omega (arith, e .among); place = omega (arith, e .place); number = omega (arith, e .number) }
 
 -- an end here, or further on
-by-place : {X : Type 0} (at f n v : ℕ) (t : Bool) (rest : Option ℕ) → pick t (some n) rest ≡ some v → (t ≡ true → n ≡ v → X) → (rest ≡ some v → X) → X
+by-place : {X : Type 0} (n v : ℕ) (t : Bool) (rest : Option ℕ) → pick t (some n) rest ≡ some v → (t ≡ true → n ≡ v → X) → (rest ≡ some v → X) → X
 unfolding pick
-by-place at f n v true rest e a b = a refl (Option·some-injective n v e)
-by-place at f n v false rest e a b = b e
+by-place n v true rest e a b = a refl (Option·some-injective n v e)
+by-place n v false rest e a b = b e
 
 -- what is found is the end of a record
 pub endingAt-facts : (f at n : ℕ) (rs : List Rec) (v : ℕ) → endingAt f at n rs ≡ some v → Ends f at n rs v
 unfolding endingAt
 endingAt-facts f at n [] v e = let w = when-some (eqb at f) n v e in here f at n [] v (eqb-true at f (w .0)) (w .1)
 endingAt-facts f at n (r ∷ rs) v e =
-    by-place at f n v (eqb at f) (endingAt f (at + size r) (n + 1) rs) e (λ t q. here f at n (r ∷ rs) v (eqb-true at f t) q)
+    by-place n v (eqb at f) (endingAt f (at + size r) (n + 1) rs) e (λ t q. here f at n (r ∷ rs) v (eqb-true at f t) q)
     (λ d. further f at n r rs v (endingAt-facts f (at + size r) (n + 1) rs v d))
 
 -- each record's end is found
@@ -85,7 +87,7 @@ endingAt-take f at n (suc m) (r ∷ rs) h e =
     ∙ endingAt-take f (at + size r) (n + 1) m rs (omega arith) (omega arith)
     ∙ ap some q
 
--- so the two are one
+-- the end of a record is found, with its number
 pub endingAt-of : (f at n : ℕ) (rs : List Rec) (v : ℕ) → Ends f at n rs v → endingAt f at n rs ≡ some v
 endingAt-of f at n rs v e = endingAt-take f at n (e .count) rs (e .among) (e .place) ∙ ap some (sym (e .number))
 

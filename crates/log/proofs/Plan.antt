@@ -12,11 +12,13 @@ use Rattle.log.specs.Plan.{Step, takeOut, bringIn, point, close, gather,
 
 -- ---- the steps of a unit: any but LE, then LE
 
+-- a step but LE
 pub data Works : Step → Type 0 where
   works-out : {org dest : ℕ} → Works (takeOut org dest)
   works-in : {org dest back : ℕ} → Works (bringIn org dest back)
   works-point : {base old new : ℕ} {other : Bool} → Works (point base old new other)
 
+-- steps but LE, then the unit's LE
 pub data Ending (u : ℕ) : List Step → Type 0 where
   last : Ending u (close u ∷ [])
   more : {x : Step} {xs : List Step} → Works x → Ending u xs → Ending u (x ∷ xs)
@@ -47,9 +49,11 @@ record Whole (u : ℕ) (xs : List Step) : Type 0 where
   fed : (past : List Step) → Fed past xs
 
 module _ {u : ℕ} where
+  -- the LE alone
   close-whole : Whole u (close u ∷ [])
   close-whole = record { ending = last; fed = λ past. tt }
 
+  -- an LM in front
   point-on : (base old new : ℕ) (other : Bool) (xs : List Step) → Whole u xs → Whole u (point base old new other ∷ xs)
   point-on base old new other xs w = record { ending = more works-point (w .ending); fed = λ past. w .fed (point base old new other ∷ past) }
 
@@ -61,11 +65,13 @@ module _ {u : ℕ} where
         fed = λ past. (refl, w .fed (bringIn org dest 1 ∷ takeOut org dest ∷ past));
       }
 
+  -- one list of steps or the other in front
   pick-on : (t : Bool) (a b xs : List Step) → Whole u (a ++ xs) → Whole u (b ++ xs) → Whole u (pick t a b ++ xs)
   unfolding pick
   pick-on true a b xs p q = p
   pick-on false a b xs p q = q
 
+  -- LO and LI of each leaf in front
   gather-on : (dest : ℕ) (ps : List ℕ) (xs : List Step) → Whole u xs → Whole u (gather dest ps ++ xs)
   unfolding gather
   gather-on dest [] xs w = w
@@ -73,11 +79,13 @@ module _ {u : ℕ} where
       let rest = gather-on dest ps xs w in
       pick-on (eqb p dest) (gather dest ps) (takeOut p dest ∷ bringIn p dest 1 ∷ gather dest ps) xs rest (pair-on p dest (gather dest ps ++ xs) rest)
 
+  -- LMs that remove in front
   removals-on : (base : ℕ) (ps : List ℕ) (xs : List Step) → Whole u xs → Whole u (removals base ps ++ xs)
   unfolding removals
   removals-on base [] xs w = w
   removals-on base (p ∷ ps) xs w = point-on base p 0 false (removals base ps ++ xs) (removals-on base ps xs w)
 
+  -- a compact's steps in front
   compact-on : (base dest : ℕ) (leaves : List ℕ) (xs : List Step) → Whole u xs → Whole u (compactPlan base dest leaves ++ xs)
   unfolding compactPlan replacing
   compact-on base dest leaves xs w =
@@ -89,10 +97,12 @@ module _ {u : ℕ} where
       rw (append-assoc a (b ++ d) xs, append-assoc b d xs)
       (gather-on dest leaves (b ++ (d ++ xs)) (pick-on (eqb c dest) [] (point base c dest false ∷ []) (d ++ xs) r (point-on base c dest false (d ++ xs) r)))
 
+  -- a move's steps in front
   move-on : (base org dest : ℕ) (xs : List Step) → Whole u xs → Whole u (movePlan base org dest ++ xs)
   unfolding movePlan
   move-on base org dest xs w = pair-on org dest (point base org dest false ∷ xs) (point-on base org dest false xs w)
 
+  -- a swap's steps in front
   swap-on : (p q a b : ℕ) (xs : List Step) → Whole u xs → Whole u (swapPlan p q a b ++ xs)
   unfolding swapPlan
   swap-on p q a b xs w =
@@ -102,6 +112,7 @@ module _ {u : ℕ} where
         fed = λ past. (refl, (refl, r .fed (bringIn a b 3 ∷ bringIn b a 1 ∷ takeOut b a ∷ takeOut a b ∷ past)));
       }
 
+-- a plan is such a list
 plan-whole : (g : Begin) → Whole (g .unit) (plan g)
 unfolding plan
 plan-whole g =

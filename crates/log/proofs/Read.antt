@@ -59,12 +59,14 @@ planned-facts (point base old new other) did l r e h =
 planned-facts (close unit) did l r e h =
     subst (λ (q : Rec). Sized q × (Bytes l → Does did (close unit) q)) (Option·some-injective _ r e) (Each.nil, λ b. does-close)
 
+-- the record that an open unit expects
 first-facts : (u : ℕ) (o : Open) (xs : List Step) (l : List ℕ) (r : Rec) → o .todo ≡ xs → plannedFirst xs (o .did) l ≡ some r → size r ≤ length l
     → Sized r × (Bytes l → Follows u (some o) r)
 unfolding plannedFirst
 first-facts u o [] l r t e h = absurd (Option·none-ne-some r e)
 first-facts u o (x ∷ xs) l r t e h = let p = planned-facts x (o .did) l r e h in (p .0, λ b. goes t (p .1 b))
 
+-- the record that a state expects can be written, and of bytes it may come next
 expected-facts : (u : ℕ) (o : Option Open) (l : List ℕ) (r : Rec) → expected u o l ≡ some r → size r ≤ length l
     → Sized r × (Bytes l → Follows u o r)
 unfolding expected carried
@@ -161,6 +163,7 @@ pub record ReadTop (l : List ℕ) (c : Check) : Type 0 where
   pub front : l ≡ encodeCheck c ++ drop 24 l
   pub small : Bytes l → Small c
 
+-- a key that is there
 key-small : (t : Bool) (v k : ℕ) → pick t none (some v) ≡ some k → v ≤ most4 → k ≤ most4
 unfolding pick
 key-small true v k e h = absurd (Option·none-ne-some k e)
@@ -190,6 +193,7 @@ pub record ReadLog (l : List ℕ) (g : Log) : Type 0 where
   pub whole : l ≡ encodeLog g ++ zeroes (length l - (atEnd g) .at)
   pub good : Bytes l → Good g
 
+-- a check record, then records
 log-of : (l : List ℕ) (c : Check) (rs : List Rec) → ReadTop l c → ReadAll (first c) (drop 24 l) rs → ReadLog l (record { top = c; recs = rs })
 unfolding encodeLog
 log-of l c rs top rest =

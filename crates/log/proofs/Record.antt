@@ -115,6 +115,7 @@ bytes-encodeCheck c =
     bytes-append (header check (lengthOf check 0) (c .number) 0) (bytes4 (c .unit) ++ lkBytes (c .lk)) (bytes-header check (lengthOf check 0) (c .number) 0 (omega arith))
     (four (c .unit) (lkBytes (c .lk)) (bytes-lkBytes (c .lk)))
 
+-- a body is of bytes
 bytes-body : (n : ℕ) (r : Rec) → Narrow r → Bytes (body n r)
 unfolding body
 bytes-body n (LB g) h =
@@ -133,6 +134,7 @@ bytes-body n (LM base old new key) h =
     two base _ (two old _ (two new _ (two 0 _ (four key (bytes4 (newKey new key)) (bytes-bytes4 (newKey new key))))))
 bytes-body n (LE unit) h = bytes-bytes4 unit
 
+-- a mark's letter is a byte
 sign-small : (r : Rec) → kindOf r .sign < 256
 unfolding kindOf
 sign-small (LB g) = omega arith

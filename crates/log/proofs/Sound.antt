@@ -1,5 +1,5 @@
--- What holds at every state of a good log: its numbers fit four bytes, so that a checkpoint can write them, and an open unit has steps to
--- come, of which the last and no other ends it. Assumes nothing.
+-- What holds at every state of a good log: its numbers fit four bytes, so that a checkpoint can write them; the records of an open unit did
+-- the first steps of its plan, and the steps to come are the others; an LI to come has its LO among those records. Assumes nothing.
 use Prim.Native.Nat.{ℕ, zero, suc, _-_, _≤_}
 use native.Mathlib.Omega.{arith}
 use mathlib.Core.Path.{_≡_, refl, sym, ap, _∙_, subst}
@@ -25,6 +25,7 @@ use Rattle.log.proofs.Valid.{Moved, Does, does-out, does-in, does-point
 
 -- ---- the largest key moved
 
+-- one number or the other
 pick-most : (t : Bool) (a b : ℕ) → a ≤ most4 → b ≤ most4 → pick t a b ≤ most4
 unfolding pick
 pick-most true a b p q = p
@@ -38,6 +39,7 @@ largest-most m h (Each.cons {r = r} b p) =
     let k : keyOf r ≤ most4 = omega (arith, le4-small r 2 b) in
     largest-most (pick (leb m (keyOf r)) (keyOf r) m) (pick-most (leb m (keyOf r)) (keyOf r) m k h) p
 
+-- the rows that a record carries are of bytes
 carried-bytes : (r : Rec) → Narrow r → Each Bytes (carried r)
 unfolding carried
 carried-bytes (LB g) h = Each.nil
@@ -46,7 +48,7 @@ carried-bytes (LI org dest back rs) h = Each.nil
 carried-bytes (LM base old new key) h = Each.nil
 carried-bytes (LE unit) h = Each.nil
 
--- so does the largest that LOs moved
+-- the largest key that LOs moved fits four bytes
 pub largestMoved-most : (m : ℕ) {did : List Rec} → m ≤ most4 → Every Narrow did → largestMoved m did ≤ most4
 unfolding largestMoved
 largestMoved-most m h Every.nil = h
@@ -69,10 +71,12 @@ pub record Awaits (u : ℕ) (o : Open) : Type 0 where
   pub fed : Fed past (o .todo)
   pub todo : Ending u (o .todo)
 
+-- the records done fit their bytes
 done-narrow : {past : List Step} {did : List Rec} → Done past did → Every Narrow did
 done-narrow nil = Every.nil
 done-narrow (cons d p) = Every.cons (does-narrow d) (done-narrow p)
 
+-- they are as many as the steps done
 done-length : {past : List Step} {did : List Rec} → Done past did → length past ≡ length did
 done-length nil = refl
 done-length (cons d p) = ap suc (done-length p)
@@ -89,6 +93,7 @@ pub record Source (did : List Rec) (i org dest : ℕ) : Type 0 where
   pub lo : getD did i (LE 0) ≡ LO org dest rows
   pub moved : Moved rows
 
+-- the record that did an LO's step
 source-here : {did rest : List Rec} {x : Step} {r : Rec} (org dest : ℕ) → Does did x r → x ≡ takeOut org dest → Source (r ∷ rest) 0 org dest
 source-here org dest (does-out {org = p} {dest = q} {rs = rs} m) e =
     let a : p ≡ org = cc in
@@ -98,6 +103,7 @@ source-here org dest (does-in q) e = let z : _≡_ {A = ℕ} 0 1 = cc in absurd 
 source-here org dest (does-point h) e = let z : _≡_ {A = ℕ} 0 1 = cc in absurd (omega arith)
 source-here org dest does-close e = let z : _≡_ {A = ℕ} 0 1 = cc in absurd (omega arith)
 
+-- the same, so many records back
 source-at : {past : List Step} {did : List Rec} (i org dest : ℕ) → Done past did → getD past i (close 0) ≡ takeOut org dest → Source did i org dest
 source-at i org dest nil e = let z : _≡_ {A = ℕ} 0 1 = cc in absurd (omega arith)
 source-at zero org dest (cons d p) e = source-here org dest d e
@@ -110,7 +116,7 @@ pub awaits-source : {u : ℕ} {o : Open} {org dest back : ℕ} {xs : List Step} 
     → Source (o .did) (back - 1) org dest
 awaits-source {org = org} {dest = dest} {back = back} a e = source-at (back - 1) org dest (a .done) (subst (Fed (a .past)) e (a .fed) .0)
 
--- so what it brings in is what an LO moved
+-- what an LI to come brings in is what an LO moved
 pub awaits-moved : {u : ℕ} {o : Open} {org dest back : ℕ} {xs : List Step} → Awaits u o → o .todo ≡ bringIn org dest back ∷ xs
     → Moved (taken back (o .did))
 unfolding taken carried
@@ -118,10 +124,12 @@ awaits-moved a e = let s = awaits-source a e in rw (s .lo) (s .moved)
 
 -- ---- the states
 
+-- no unit is open, or one of this number
 pub data Waits (u : ℕ) : Option Open → Type 0 where
   shut : Waits u none
   open-unit : {o : Open} → Awaits u o → Waits u (some o)
 
+-- the numbers of a state fit four bytes, and its open unit is as its plan says
 pub record Sound (s : State) : Type 0 where
   pub number : s .number ≤ most4
   pub unit : s .unit ≤ most4
@@ -132,6 +140,7 @@ pub record Sound (s : State) : Type 0 where
 pub waits-open : {u : ℕ} {o : Open} → Waits u (some o) → Awaits u o
 waits-open (open-unit a) = a
 
+-- an open unit after one of its steps but LE
 waits-going : {u : ℕ} {o : Open} {x : Step} {xs : List Step} {r : Rec} → Works x → o .todo ≡ x ∷ xs → Does (o .did) x r → Awaits u o → Awaits u (going r o)
 unfolding going
 waits-going {u} {o} {x} {xs} w e d a =
@@ -145,6 +154,7 @@ waits-going {u} {o} {x} {xs} w e d a =
       todo = rw e (ending-rest w (subst (Ending u) e (a .todo)));
     }
 
+-- the unit that is open after a record
 waits-after : {u : ℕ} {o : Option Open} {r : Rec} → Follows u o r → Waits u o → Waits (unitBy r u) (openedBy r o)
 unfolding unitBy openedBy bind
 waits-after (begins {g = g} e ok) w =
@@ -154,6 +164,7 @@ waits-after (goes e (does-in q)) w = open-unit (waits-going works-in e (does-in 
 waits-after (goes e (does-point h)) w = open-unit (waits-going works-point e (does-point h) (waits-open w))
 waits-after (goes e does-close) w = shut
 
+-- its number
 unit-after : {u : ℕ} {o : Option Open} {r : Rec} → Follows u o r → u ≤ most4 → unitBy r u ≤ most4
 unfolding unitBy
 unit-after (begins {g = g} e ok) h = beginOk-unit g ok
@@ -162,11 +173,13 @@ unit-after (goes e (does-in q)) h = h
 unit-after (goes e (does-point k)) h = h
 unit-after (goes e does-close) h = h
 
+-- a key, or LK as it was
 pick-key : (t : Bool) (v k : ℕ) (lk : Option ℕ) → v ≤ most4 → ((j : ℕ) → lk ≡ some j → j ≤ most4) → pick t (some v) lk ≡ some k → k ≤ most4
 unfolding pick
 pick-key true v k lk h f e = omega (arith, Option·some-injective v k e)
 pick-key false v k lk h f e = f k e
 
+-- LK after a record
 lk-after : {u : ℕ} {o : Option Open} {r : Rec} (lk : Option ℕ) → Follows u o r → Waits u o → ((k : ℕ) → lk ≡ some k → k ≤ most4)
     → (k : ℕ) → lkBy r lk o ≡ some k → k ≤ most4
 unfolding lkBy lkEnded given
@@ -193,7 +206,7 @@ sound-after {s} h f =
       waits = waits-after (f .follows) (h .waits);
     }
 
--- and so do many
+-- a chain leaves a sound state
 pub sound-afterAll : {s : State} {rs : List Rec} → Sound s → Valid s rs → Sound (afterAll s rs)
 unfolding afterAll
 sound-afterAll h Valid.nil = h

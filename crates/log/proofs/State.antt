@@ -77,14 +77,14 @@ encodeAll-append n (r ∷ rs) b =
     let e : n + 1 + length rs ≡ n + suc (length rs) = omega arith in
     rw (encodeAll-append (n + 1) rs b, e) (sym (append-assoc (encode n r) (encodeAll (n + 1) rs) (encodeAll (n + suc (length rs)) b)))
 
--- how many bytes they are
+-- the records have as many bytes as their sizes say
 pub length-encodeAll : (n : ℕ) {rs : List Rec} → Every Sized rs → length (encodeAll n rs) ≡ sizes rs
 unfolding encodeAll sizes
 length-encodeAll n nil = refl
 length-encodeAll n (cons {r = r} {rs = rs} h p) =
     rw (length-append (encode n r) (encodeAll (n + 1) rs), length-encode n r h, length-encodeAll (n + 1) p)
 
--- they are bytes
+-- the records are bytes
 pub bytes-encodeAll : (n : ℕ) {rs : List Rec} → Every Narrow rs → Bytes (encodeAll n rs)
 unfolding encodeAll
 bytes-encodeAll n nil = bytes-nil

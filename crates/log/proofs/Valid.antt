@@ -67,30 +67,30 @@ does-sized (does-in e) = Each.nil
 does-sized (does-point h) = Each.nil
 does-sized does-close = Each.nil
 
--- and fits its bytes
+-- a record that does a step fits its bytes
 pub does-narrow : {did : List Rec} {x : Step} {r : Rec} → Does did x r → Narrow r
 does-narrow (does-out m) = m .bytes
 does-narrow (does-in e) = tt
 does-narrow (does-point h) = tt
 does-narrow does-close = tt
 
--- so has a record that may come next
+-- a record that may come next has rows of 16 bytes
 pub follows-sized : {u : ℕ} {o : Option Open} {r : Rec} → Follows u o r → Sized r
 unfolding carried
 follows-sized (begins e ok) = Each.nil
 follows-sized (goes e d) = does-sized d
 
--- and fits its bytes
+-- a record that may come next fits its bytes
 pub follows-narrow : {u : ℕ} {o : Option Open} {r : Rec} → Follows u o r → Narrow r
 follows-narrow (begins {g = g} e ok) = beginOk-narrow g ok
 follows-narrow (goes e d) = does-narrow d
 
--- so have all of a chain
+-- all records of a chain have rows of 16 bytes
 pub valid-sized : {s : State} {rs : List Rec} → Valid s rs → Every Sized rs
 valid-sized nil = Every.nil
 valid-sized (cons f v) = Every.cons (follows-sized (f .follows)) (valid-sized v)
 
--- and fit their bytes
+-- all records of a chain fit their bytes
 pub valid-narrow : {s : State} {rs : List Rec} → Valid s rs → Every Narrow rs
 valid-narrow nil = Every.nil
 valid-narrow (cons f v) = Every.cons (follows-narrow (f .follows)) (valid-narrow v)
@@ -109,7 +109,7 @@ unfolding afterAll
 valid-append b nil w = w
 valid-append b (cons f v) w = cons f (valid-append b v w)
 
--- and back
+-- a chain of two parts is a chain, then one from where it led
 pub valid-split : (s : State) (a b : List Rec) → Valid s (a ++ b) → Valid s a × Valid (afterAll s a) b
 unfolding afterAll
 valid-split s [] b v = (nil, v)

@@ -41,15 +41,18 @@ readFields-fields from to (suc n) (p ∷ ps) rest h k w =
     (readFields-fields from to n ps rest h (omega arith) (within-tail from to p ps w))
 
 module _ (n : ℕ) (g : Begin) (rest : List ℕ) (ok : beginOk g ≡ true) where
+  -- what stands from the base pages on
   bases-on : drop 20 (encode n (LB g) ++ rest) ≡ fields 2 (g .bases) ++ (fields 8 (g .leaves) ++ (bytes2 (g .dest) ++ (bytes2 0 ++ rest)))
   unfolding encode header body bytes2 bytes4
   bases-on = simp append-assoc
 
+  -- from the leaves on
   leaves-on : drop 24 (encode n (LB g) ++ rest) ≡ fields 8 (g .leaves) ++ (bytes2 (g .dest) ++ (bytes2 0 ++ rest))
   leaves-on =
       sym (drop-drop 4 20 (encode n (LB g) ++ rest))
       ∙ rw bases-on (drop-at (fields 2 (g .bases)) (fields 8 (g .leaves) ++ (bytes2 (g .dest) ++ (bytes2 0 ++ rest))) 4 (length-fields 2 (g .bases)))
 
+  -- from the destination on
   dest-on : drop 40 (encode n (LB g) ++ rest) ≡ bytes2 (g .dest) ++ (bytes2 0 ++ rest)
   dest-on =
       sym (drop-drop 16 24 (encode n (LB g) ++ rest))
@@ -76,20 +79,24 @@ module _ (n : ℕ) (g : Begin) (rest : List ℕ) (ok : beginOk g ≡ true) where
 
 -- ---- one record
 
+-- an LO's count
 out-count : (n org dest : ℕ) (rs : List (List ℕ)) (rest : List ℕ) → length rs ≤ 15 → le2 (encode n (LO org dest rs) ++ rest) 16 ≡ length rs
 unfolding encode header body bytes2 bytes4 le2
 out-count n org dest rs rest h = omega arith
 
+-- an LO's rows
 out-rows : (n org dest : ℕ) (rs : List (List ℕ)) (rest : List ℕ) → drop 20 (encode n (LO org dest rs) ++ rest) ≡ joined rs ++ rest
 unfolding encode header body bytes2 bytes4
 out-rows n org dest rs rest = refl
 
+-- an LM's key
 point-key : (n base old new key : ℕ) (rest : List ℕ) → key ≤ most4 → le4 (encode n (LM base old new key) ++ rest) 20 ≡ key
 unfolding encode header body bytes2
 point-key n base old new key rest h =
     sym (le4-drop 20 0 (encode n (LM base old new key) ++ rest))
     ∙ (unfold bytes4 in le4-bytes4 key (bytes4 (newKey new key) ++ rest) (omega arith))
 
+-- the record of a step
 planned-encode : {did : List Rec} {x : Step} {r : Rec} (n : ℕ) (rest : List ℕ) → Does did x r → planned x did (encode n r ++ rest) ≡ some r
 unfolding planned
 planned-encode n rest (does-out {org = org} {dest = dest} {rs = rs} m) =
@@ -100,6 +107,7 @@ planned-encode n rest (does-in e) = rw e
 planned-encode n rest (does-point {base = base} {old = old} {new = new} {key = key} h) = rw (point-key n base old new key rest h)
 planned-encode n rest does-close = refl
 
+-- the record that a state expects
 expected-encode : {u : ℕ} {o : Option Open} {r : Rec} (n : ℕ) (rest : List ℕ) → Follows u o r → expected u o (encode n r ++ rest) ≡ some r
 unfolding expected plannedFirst
 expected-encode n rest (begins {g = g} e ok) = rw (← e, readBegin-encode n g rest ok) (when-true (beginOk g) (LB g) ok)
@@ -117,6 +125,7 @@ readRec-encode s r rest f =
 
 -- ---- the records
 
+-- zeros begin with zero
 zeroes-first : (k : ℕ) → getD (zeroes k) 0 0 ≡ 0
 unfolding zeroes
 zeroes-first zero = refl
@@ -151,14 +160,17 @@ lk-front none rest h = refl
 lk-front (some k) rest h = ap some (sym (le4-drop 4 0 (lkBytes (some k) ++ rest)) ∙ le4-bytes4 k rest (omega (arith, h k refl)))
 
 module _ (c : Check) (rest : List ℕ) where
+  -- a check record's number
   check-number : c .number ≤ most4 → le4 (encodeCheck c ++ rest) 4 ≡ c .number
   unfolding encodeCheck header bytes2 bytes4
   check-number h = sym (le4-drop 4 0 (encodeCheck c ++ rest)) ∙ le4-bytes4 (c .number) _ (omega arith)
 
+  -- its unit
   check-unit : c .unit ≤ most4 → le4 (encodeCheck c ++ rest) 12 ≡ c .unit
   unfolding encodeCheck header bytes2 bytes4
   check-unit h = sym (le4-drop 12 0 (encodeCheck c ++ rest)) ∙ le4-bytes4 (c .unit) (lkBytes (c .lk) ++ rest) (omega arith)
 
+  -- its LK
   check-lk : ((k : ℕ) → c .lk ≡ some k → k ≤ most4) → pick (eqb (getD (encodeCheck c ++ rest) 16 0) 0) none (some (le4 (encodeCheck c ++ rest) 20)) ≡ c .lk
   unfolding encodeCheck header bytes2 bytes4
   check-lk h = rw (← le4-drop 16 4 (encodeCheck c ++ rest)) (lk-front (c .lk) rest h)

@@ -1,14 +1,13 @@
 -- What the test of a begin record says of its numbers, so that each fits the bytes that it is written in. Assumes nothing.
-use Prim.Native.Nat.{ℕ, zero, suc, _+_, _≤_, _<_}
+use Prim.Native.Nat.{ℕ, _≤_}
 use native.Mathlib.Omega.{arith}
-use mathlib.Core.Path.{_≡_, refl, sym, ap, _∙_}
-use mathlib.Core.Logic.{_⊎_, inl, inr, ⊎-elim}
+use mathlib.Core.Path.{_≡_, refl}
 use mathlib.Core.Bool.{Bool, true, false}
-use mathlib.Core.List.{List, [], _∷_, _++_}
+use mathlib.Core.List.{List, [], _∷_}
 use lib.ListN.{length}
 use lib.Dec.{eqb, leb}
 use borrow.Author.Tests.{eqb-true, leb-true}
-use Rattle.field.specs.Test.{both, all, pick}
+use Rattle.field.specs.Test.{both, pick}
 use Rattle.field.specs.Bytes.{most4}
 use Rattle.field.proofs.Test.{both-1, both-2, all-head, all-tail}
 use Rattle.log.specs.Record.{Begin, LB}
@@ -30,11 +29,13 @@ within-head from to p ps e =
     let f = both-2 (leb from p) (both (leb p to) (within from to ps)) e in
     (leb-true from p (both-1 (leb from p) _ e), leb-true p to (both-1 (leb p to) (within from to ps) f))
 
+-- the pages behind it lie there too
 pub within-tail : (from to p : ℕ) (ps : List ℕ) → within from to (p ∷ ps) ≡ true → within from to ps ≡ true
 unfolding within
 within-tail from to p ps e = both-2 (leb p to) (within from to ps) (both-2 (leb from p) (both (leb p to) (within from to ps)) e)
 
 module _ (g : Begin) where
+  -- of a compact
   compact-limits : g .type ≡ 1 → compactOk g ≡ true → Limits g
   unfolding compactOk
   compact-limits t e =
@@ -51,6 +52,7 @@ module _ (g : Begin) where
         dest = within-head 8 63 (g .dest) [] (all-head _ _ e5) .1;
       }
 
+  -- of a swap
   swap-limits : g .type ≡ 2 → swapOk g ≡ true → Limits g
   unfolding swapOk
   swap-limits t e =
@@ -66,6 +68,7 @@ module _ (g : Begin) where
         dest = omega (arith, eqb-true (g .dest) 0 (all-head _ _ e4));
       }
 
+  -- of a move
   move-limits : g .type ≡ 3 → moveOk g ≡ true → Limits g
   unfolding moveOk
   move-limits t e =
@@ -86,6 +89,7 @@ module _ (g : Begin) where
   by-test true a b e f h = f refl e
   by-test false a b e f h = h e
 
+  -- whatever the type, its numbers are bounded
   pub typeOk-limits : typeOk g ≡ true → Limits g
   unfolding typeOk
   typeOk-limits e =
@@ -97,21 +101,26 @@ module _ (g : Begin) where
 
   -- what the test says of a begin record
   module _ (ok : beginOk g ≡ true) where
+    -- its unit number fits four bytes
     pub beginOk-unit : g .unit ≤ most4
     unfolding beginOk
     beginOk-unit = leb-true (g .unit) most4 (all-head _ _ ok)
 
+    -- the numbers that its type bounds
     pub beginOk-limits : Limits g
     unfolding beginOk
     beginOk-limits = typeOk-limits (all-head _ _ (all-tail _ _ ok))
 
+    -- its base pages are base pages
     pub beginOk-bases : within 1 7 (g .bases) ≡ true
     unfolding beginOk
     beginOk-bases = all-head _ _ (all-tail _ _ (all-tail _ _ ok))
 
+    -- its leaves are leaf pages
     pub beginOk-leaves : within 8 63 (g .leaves) ≡ true
     unfolding beginOk
     beginOk-leaves = all-head _ _ (all-tail _ _ (all-tail _ _ (all-tail _ _ (all-tail _ _ ok))))
 
+    -- a begin record fits its bytes
     pub beginOk-narrow : Narrow (LB g)
     beginOk-narrow = let m : Limits g = beginOk-limits in (omega arith, omega arith, omega arith, omega arith)

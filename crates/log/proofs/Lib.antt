@@ -1,7 +1,13 @@
--- Laws of the log: the bytes of records, what is known after them, which may follow, what is read and what is written.
+-- Laws of the log: the bytes of records, what is known after them, which record may follow, what is read, what is written, where records
+-- end, and logs that grow or are cut.
 pub mod Record
 pub mod State
 pub mod Begin
+pub mod Plan
 pub mod Valid
+pub mod Sound
 pub mod Read
+pub mod Write
 pub mod Append
+pub mod Ends
+pub mod Cut

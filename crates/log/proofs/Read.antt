@@ -1,6 +1,6 @@
 -- What is read of a log is written back to the same bytes: a record read is the record that stands there, and the records and the log
 -- read are all that stands before the zeros. Of a list of bytes, what is read is valid. Assumes nothing.
-use Prim.Native.Nat.{ℕ, zero, suc, _+_, _-_, _*_, _≤_, _<_}
+use Prim.Native.Nat.{ℕ, zero, suc, _+_, _-_, _*_, _≤_}
 use native.Mathlib.Nat.{sub-zero}
 use native.Mathlib.Omega.{arith}
 use mathlib.Core.Path.{_≡_, refl, sym, ap, _∙_, subst}
@@ -8,24 +8,24 @@ use mathlib.Core.Logic.{_⊎_, inl, inr, ⊎-elim}
 use mathlib.Core.Bool.{Bool, true, false}
 use mathlib.Core.List.{List, [], _∷_, _++_, append-assoc}
 use mathlib.Core.Option.{Option, some, none, Option·some-injective, Option·none-ne-some}
-use lib.ListN.{length, take, drop, getD, length-drop}
+use lib.ListN.{length, drop, getD, length-drop}
 use lib.Dec.{eqb, leb}
 use borrow.Author.Tests.{leb-true}
 use Rattle.field.specs.Test.{all, pick, when, bind}
 use Rattle.field.specs.Bytes.{zeroes, allZero, starts, Bytes, le2, le4, most4}
-use Rattle.field.proofs.Test.{all-head, all-tail, when-some, Bound, bind-some}
+use Rattle.field.proofs.Test.{all-head, all-tail, when-some, bind-some}
 use Rattle.field.proofs.Number.{le4-small}
 use Rattle.field.proofs.Zero.{zero-list}
 use Rattle.field.proofs.Same.{starts-eq, starts-length}
 use Rattle.field.proofs.Byte.{bytes-drop}
 use Rattle.page.specs.Page.{rowsOf, ascendRecords}
 use Rattle.page.proofs.Rows.{Each, Long, length-rowsOf, long-rowsOf, bytes-rowsOf}
-use Rattle.log.specs.Record.{check, lengthOf, kindOf, Check, Begin, Rec, LB, LO, LI, LM, LE, carried, size, encodeCheck, encode, encodeAll}
+use Rattle.log.specs.Record.{lengthOf, kindOf, Check, Begin, Rec, LB, LO, carried, size, encodeCheck, encode, encodeAll}
 use Rattle.log.specs.Plan.{Step, takeOut, bringIn, point, close}
-use Rattle.log.specs.Log.{Open, State, first, after, readBegin, beginOk, taken, planned, plannedFirst, expected, readRec, readRecs, readCheck, Log, readLog, atEnd, encodeLog}
+use Rattle.log.specs.Log.{Open, State, first, after, readBegin, beginOk, planned, plannedFirst, expected, readRec, readRecs, readCheck, Log, readLog, atEnd, encodeLog}
 use Rattle.log.proofs.Record.{Sized, length-encodeCheck, length-encode}
 use Rattle.log.proofs.State.{sizes, Every, at-atEnd}
-use Rattle.log.proofs.Valid.{Moved, Does, does-out, does-in, does-point, does-close, Follows, begins, goes, Fits, Valid, Good}
+use Rattle.log.proofs.Valid.{Does, does-out, does-in, does-point, does-close, Follows, begins, goes, Fits, Valid, Small, Good}
 
 -- ---- one record
 
@@ -59,12 +59,14 @@ planned-facts (point base old new other) did l r e h =
 planned-facts (close unit) did l r e h =
     subst (λ (q : Rec). Sized q × (Bytes l → Does did (close unit) q)) (Option·some-injective _ r e) (Each.nil, λ b. does-close)
 
+-- the record that an open unit expects
 first-facts : (u : ℕ) (o : Open) (xs : List Step) (l : List ℕ) (r : Rec) → o .todo ≡ xs → plannedFirst xs (o .did) l ≡ some r → size r ≤ length l
     → Sized r × (Bytes l → Follows u (some o) r)
 unfolding plannedFirst
 first-facts u o [] l r t e h = absurd (Option·none-ne-some r e)
 first-facts u o (x ∷ xs) l r t e h = let p = planned-facts x (o .did) l r e h in (p .0, λ b. goes t (p .1 b))
 
+-- the record that a state expects can be written, and of bytes it may come next
 expected-facts : (u : ℕ) (o : Option Open) (l : List ℕ) (r : Rec) → expected u o l ≡ some r → size r ≤ length l
     → Sized r × (Bytes l → Follows u o r)
 unfolding expected carried
@@ -82,6 +84,7 @@ pub record ReadOff (s : State) (l : List ℕ) (r : Rec) : Type 0 where
   pub front : l ≡ encode (s .number + 1) r ++ drop (size r) l
   pub fits : Bytes l → Fits s r
 
+-- a record that is read stands there, all of it
 pub readRec-facts : (s : State) (l : List ℕ) (r : Rec) → readRec s l ≡ some r → ReadOff s l r
 unfolding readRec
 readRec-facts s l r e =
@@ -137,6 +140,7 @@ unfolding pick
 pick-some true x y v e = inl e
 pick-some false x y v e = inr e
 
+-- records that are read stand there, and zeros to the end
 pub readRecs-facts : (f : ℕ) (s : State) (l : List ℕ) (rs : List Rec) → readRecs f s l ≡ some rs → ReadAll s l rs
 unfolding readRecs
 readRecs-facts zero s l rs e = absurd (Option·none-ne-some rs e)
@@ -157,15 +161,15 @@ readRecs-facts (suc f) s l rs e =
 pub record ReadTop (l : List ℕ) (c : Check) : Type 0 where
   pub short : 24 ≤ length l
   pub front : l ≡ encodeCheck c ++ drop 24 l
-  pub number : Bytes l → c .number ≤ most4
-  pub unit : Bytes l → c .unit ≤ most4
-  pub lk : Bytes l → (k : ℕ) → c .lk ≡ some k → k ≤ most4
+  pub small : Bytes l → Small c
 
+-- a key that is there
 key-small : (t : Bool) (v k : ℕ) → pick t none (some v) ≡ some k → v ≤ most4 → k ≤ most4
 unfolding pick
 key-small true v k e h = absurd (Option·none-ne-some k e)
 key-small false v k e h = omega (arith, Option·some-injective v k e)
 
+-- a check record that is read stands there
 pub readCheck-facts : (l : List ℕ) (c : Check) → readCheck l ≡ some c → ReadTop l c
 unfolding readCheck
 readCheck-facts l c e =
@@ -175,9 +179,11 @@ readCheck-facts l c e =
     subst (ReadTop l) (w .1) (record {
       short = omega (arith, starts-length (encodeCheck d) l (w .0));
       front = rw n at (starts-eq (encodeCheck d) l (w .0));
-      number = λ b. omega (arith, le4-small l 4 b);
-      unit = λ b. omega (arith, le4-small l 12 b);
-      lk = λ b k q. key-small (eqb (getD l 16 0) 0) (le4 l 20) k q (omega (arith, le4-small l 20 b));
+      small = λ b. record {
+        number = omega (arith, le4-small l 4 b);
+        unit = omega (arith, le4-small l 12 b);
+        lk = λ k q. key-small (eqb (getD l 16 0) 0) (le4 l 20) k q (omega (arith, le4-small l 20 b));
+      };
     })
 
 -- what a log says of the bytes l that it was read off
@@ -187,6 +193,7 @@ pub record ReadLog (l : List ℕ) (g : Log) : Type 0 where
   pub whole : l ≡ encodeLog g ++ zeroes (length l - (atEnd g) .at)
   pub good : Bytes l → Good g
 
+-- a check record, then records
 log-of : (l : List ℕ) (c : Check) (rs : List Rec) → ReadTop l c → ReadAll (first c) (drop 24 l) rs → ReadLog l (record { top = c; recs = rs })
 unfolding encodeLog
 log-of l c rs top rest =
@@ -201,9 +208,10 @@ log-of l c rs top rest =
       whole = top .front
           ∙ ap (λ (x : List ℕ). encodeCheck c ++ x) (rw (q, n) at (rest .whole))
           ∙ sym (append-assoc (encodeCheck c) (encodeAll (c .number + 1) rs) (zeroes (length l - (atEnd g) .at)));
-      good = λ b. record { number = top .number b; unit = top .unit b; lk = top .lk b; valid = rest .valid (bytes-drop 24 l b) };
+      good = λ b. record { top = top .small b; valid = rest .valid (bytes-drop 24 l b) };
     }
 
+-- a log that is read stands there, and zeros to the end
 pub readLog-facts : (l : List ℕ) (g : Log) → readLog l ≡ some g → ReadLog l g
 unfolding readLog lengthOf
 readLog-facts l g e =

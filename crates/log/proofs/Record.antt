@@ -1,36 +1,38 @@
 -- The bytes of each record of the log: how many they are, that they never begin with zero, and that they are bytes. Assumes nothing.
-use Prim.Native.Nat.{ℕ, zero, suc, _+_, _-_, _*_, _≤_, _<_}
-use native.Mathlib.Nat.{mul-suc, mul-zero}
+use Prim.Native.Nat.{ℕ, zero, suc, _-_, _*_, _≤_, _<_}
 use native.Mathlib.Omega.{arith}
-use mathlib.Core.Path.{_≡_, refl, sym, ap, _∙_}
+use mathlib.Core.Path.{_≡_, refl}
 use mathlib.Core.List.{List, [], _∷_, _++_}
 use mathlib.Core.Option.{Option, some, none}
 use lib.ListN.{length, getD, length-append}
-use Rattle.field.specs.Bytes.{zeroes, Bytes, bytes2, bytes4}
-use Rattle.field.proofs.Number.{length-bytes2, length-bytes4}
+use Rattle.field.specs.Bytes.{Bytes, bytes2, bytes4}
 use Rattle.field.proofs.Zero.{length-zeroes}
 use Rattle.field.proofs.Byte.{bytes-nil, bytes-cons, bytes-append, bytes-zeroes, bytes-bytes2, bytes-bytes4}
 use Rattle.page.specs.Page.{joined}
-use Rattle.page.proofs.Rows.{Each, nil, cons, Long, length-joined, bytes-joined}
-use Rattle.log.specs.Record.{Kind, check, lengthOf, Check, Begin, Rec, LB, LO, LI, LM, LE, kindOf, carried, size, header, fields, lkBytes, encodeCheck, newKey, body, previous, encode}
+use Rattle.page.proofs.Rows.{Each, Long, length-joined, bytes-joined}
+use Rattle.log.specs.Record.{Kind, check, lengthOf, Check, Rec, LB, LO, LI, LM, LE, kindOf, carried, size, header, fields, lkBytes, encodeCheck, newKey, body, previous, encode}
 
 -- ---- lengths
 
+-- a header has 12 bytes
 pub length-header : (c : Kind) (long n before : ℕ) → length (header c long n before) ≡ 12
 unfolding header bytes2 bytes4
 length-header c long n before = refl
 
+-- n fields have two bytes each
 pub length-fields : (n : ℕ) (ps : List ℕ) → length (fields n ps) ≡ 2 * n
 unfolding fields bytes2
 length-fields zero ps = refl
 length-fields (suc n) [] = omega (arith, length-fields n [])
 length-fields (suc n) (p ∷ ps) = omega (arith, length-fields n ps)
 
+-- LK has 8 bytes, present or not
 pub length-lkBytes : (lk : Option ℕ) → length (lkBytes lk) ≡ 8
 unfolding lkBytes bytes4
 length-lkBytes none = length-zeroes 8
 length-lkBytes (some k) = refl
 
+-- a check record has 24 bytes
 pub length-encodeCheck : (c : Check) → length (encodeCheck c) ≡ 24
 unfolding encodeCheck header bytes2 bytes4
 length-encodeCheck c = omega (arith, length-lkBytes (c .lk))
@@ -39,6 +41,7 @@ length-encodeCheck c = omega (arith, length-lkBytes (c .lk))
 abbrev pub Sized : Rec → Type 0
 Sized r = Each (Long 16) (carried r)
 
+-- no record is shorter than an LE
 pub size-least : (r : Rec) → 16 ≤ size r
 unfolding size lengthOf kindOf carried
 size-least (LB g) = omega arith
@@ -47,6 +50,7 @@ size-least (LI org dest back rs) = omega arith
 size-least (LM base old new key) = omega arith
 size-least (LE unit) = omega arith
 
+-- a record has as many bytes as its size says
 pub length-encode : (n : ℕ) (r : Rec) → Sized r → length (encode n r) ≡ size r
 unfolding encode header body size lengthOf kindOf carried bytes2 bytes4
 length-encode n (LB g) h =
@@ -80,6 +84,7 @@ two v l b = bytes-append (bytes2 v) l (bytes-bytes2 v) b
 four : (v : ℕ) (l : List ℕ) → Bytes l → Bytes (bytes4 v ++ l)
 four v l b = bytes-append (bytes4 v) l (bytes-bytes4 v) b
 
+-- a header is of bytes
 pub bytes-header : (c : Kind) (long n before : ℕ) → c .sign < 256 → Bytes (header c long n before)
 unfolding header
 bytes-header c long n before h =
@@ -87,12 +92,14 @@ bytes-header c long n before h =
     let m : 76 < 256 = omega arith in
     bytes-cons 76 (c .sign ∷ (bytes2 long ++ (bytes4 n ++ bytes4 before))) m (bytes-cons (c .sign) (bytes2 long ++ (bytes4 n ++ bytes4 before)) h t)
 
+-- fields are of bytes
 pub bytes-fields : (n : ℕ) (ps : List ℕ) → Bytes (fields n ps)
 unfolding fields
 bytes-fields zero ps = bytes-nil
 bytes-fields (suc n) [] = two 0 (fields n []) (bytes-fields n [])
 bytes-fields (suc n) (p ∷ ps) = two p (fields n ps) (bytes-fields n ps)
 
+-- LK is of bytes
 pub bytes-lkBytes : (lk : Option ℕ) → Bytes (lkBytes lk)
 unfolding lkBytes
 bytes-lkBytes none = bytes-zeroes 8
@@ -101,12 +108,14 @@ bytes-lkBytes (some k) =
     let o : 1 < 256 = omega arith in
     bytes-cons 1 (0 ∷ 0 ∷ 0 ∷ bytes4 k) o (bytes-cons 0 (0 ∷ 0 ∷ bytes4 k) z (bytes-cons 0 (0 ∷ bytes4 k) z (bytes-cons 0 (bytes4 k) z (bytes-bytes4 k))))
 
+-- a check record is of bytes
 pub bytes-encodeCheck : (c : Check) → Bytes (encodeCheck c)
 unfolding encodeCheck
 bytes-encodeCheck c =
     bytes-append (header check (lengthOf check 0) (c .number) 0) (bytes4 (c .unit) ++ lkBytes (c .lk)) (bytes-header check (lengthOf check 0) (c .number) 0 (omega arith))
     (four (c .unit) (lkBytes (c .lk)) (bytes-lkBytes (c .lk)))
 
+-- a body is of bytes
 bytes-body : (n : ℕ) (r : Rec) → Narrow r → Bytes (body n r)
 unfolding body
 bytes-body n (LB g) h =
@@ -125,6 +134,7 @@ bytes-body n (LM base old new key) h =
     two base _ (two old _ (two new _ (two 0 _ (four key (bytes4 (newKey new key)) (bytes-bytes4 (newKey new key))))))
 bytes-body n (LE unit) h = bytes-bytes4 unit
 
+-- a mark's letter is a byte
 sign-small : (r : Rec) → kindOf r .sign < 256
 unfolding kindOf
 sign-small (LB g) = omega arith
@@ -133,6 +143,7 @@ sign-small (LI org dest back rs) = omega arith
 sign-small (LM base old new key) = omega arith
 sign-small (LE unit) = omega arith
 
+-- a record is of bytes
 pub bytes-encode : (n : ℕ) (r : Rec) → Narrow r → Bytes (encode n r)
 unfolding encode
 bytes-encode n r h =

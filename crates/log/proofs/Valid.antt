@@ -1,12 +1,11 @@
 -- Which record may come next after a state, chains of such records, and logs made of one: the logs that recovery accepts and that the
 -- calls write. Assumes nothing.
-use Prim.Native.Nat.{ℕ, zero, suc, _+_, _≤_, _<_}
-use native.Mathlib.Omega.{arith}
-use mathlib.Core.Path.{_≡_, refl, sym, ap, _∙_}
-use mathlib.Core.Bool.{Bool, true, false}
+use Prim.Native.Nat.{ℕ, zero, suc, _+_, _≤_}
+use mathlib.Core.Path.{_≡_}
+use mathlib.Core.Bool.{Bool, true}
 use mathlib.Core.List.{List, [], _∷_, _++_}
 use mathlib.Core.Option.{Option, some, none}
-use lib.ListN.{length, take, drop}
+use lib.ListN.{length, take}
 use Rattle.field.specs.Bytes.{Bytes, most4}
 use Rattle.page.specs.Page.{ascendRecords}
 use Rattle.page.proofs.Rows.{Each, Long}
@@ -47,57 +46,70 @@ pub data Valid : State → List Rec → Type 0 where
   nil : {s : State} → Valid s []
   cons : {s : State} {r : Rec} {rs : List Rec} → Fits s r → Valid (after s r) rs → Valid s (r ∷ rs)
 
--- a log whose numbers fit their bytes and whose records each may come next
+-- a check record whose numbers fit four bytes
+pub record Small (c : Check) : Type 0 where
+  pub number : c .number ≤ most4
+  pub unit : c .unit ≤ most4
+  pub lk : (k : ℕ) → c .lk ≡ some k → k ≤ most4
+
+-- a log whose records each may come next
 pub record Good (g : Log) : Type 0 where
-  pub number : g .top .number ≤ most4
-  pub unit : g .top .unit ≤ most4
-  pub lk : (k : ℕ) → g .top .lk ≡ some k → k ≤ most4
+  pub top : Small (g .top)
   pub valid : Valid (first (g .top)) (g .recs)
 
 -- ---- a record that fits can be written
 
-does-sized : {did : List Rec} {x : Step} {r : Rec} → Does did x r → Sized r
+-- a record that does a step has rows of 16 bytes
+pub does-sized : {did : List Rec} {x : Step} {r : Rec} → Does did x r → Sized r
 unfolding carried
 does-sized (does-out m) = m .long
 does-sized (does-in e) = Each.nil
 does-sized (does-point h) = Each.nil
 does-sized does-close = Each.nil
 
-does-narrow : {did : List Rec} {x : Step} {r : Rec} → Does did x r → Narrow r
+-- a record that does a step fits its bytes
+pub does-narrow : {did : List Rec} {x : Step} {r : Rec} → Does did x r → Narrow r
 does-narrow (does-out m) = m .bytes
 does-narrow (does-in e) = tt
 does-narrow (does-point h) = tt
 does-narrow does-close = tt
 
+-- a record that may come next has rows of 16 bytes
 pub follows-sized : {u : ℕ} {o : Option Open} {r : Rec} → Follows u o r → Sized r
 unfolding carried
 follows-sized (begins e ok) = Each.nil
 follows-sized (goes e d) = does-sized d
 
+-- a record that may come next fits its bytes
 pub follows-narrow : {u : ℕ} {o : Option Open} {r : Rec} → Follows u o r → Narrow r
 follows-narrow (begins {g = g} e ok) = beginOk-narrow g ok
 follows-narrow (goes e d) = does-narrow d
 
+-- all records of a chain have rows of 16 bytes
 pub valid-sized : {s : State} {rs : List Rec} → Valid s rs → Every Sized rs
 valid-sized nil = Every.nil
 valid-sized (cons f v) = Every.cons (follows-sized (f .follows)) (valid-sized v)
 
+-- all records of a chain fit their bytes
 pub valid-narrow : {s : State} {rs : List Rec} → Valid s rs → Every Narrow rs
 valid-narrow nil = Every.nil
 valid-narrow (cons f v) = Every.cons (follows-narrow (f .follows)) (valid-narrow v)
 
 -- ---- beginnings of a chain, and chains one after the other
 
+-- every beginning of a chain is a chain
 pub valid-take : {s : State} {rs : List Rec} (m : ℕ) → Valid s rs → Valid s (take m rs)
 valid-take zero v = nil
 valid-take (suc m) nil = nil
 valid-take (suc m) (cons f v) = cons f (valid-take m v)
 
+-- a chain, then one from where it led
 pub valid-append : {s : State} {a : List Rec} (b : List Rec) → Valid s a → Valid (afterAll s a) b → Valid s (a ++ b)
 unfolding afterAll
 valid-append b nil w = w
 valid-append b (cons f v) w = cons f (valid-append b v w)
 
+-- a chain of two parts is a chain, then one from where it led
 pub valid-split : (s : State) (a b : List Rec) → Valid s (a ++ b) → Valid s a × Valid (afterAll s a) b
 unfolding afterAll
 valid-split s [] b v = (nil, v)

@@ -63,9 +63,13 @@ impl Cases {
             }
             state
         };
-        // Offsets: type 16, fill 17, bases 18, leaves 19, base pages 20 and
+        // Offsets: mark 0, length 2, type 16, fill 17, bases 18, leaves 19, base pages 20 and
         // 22, leaf pages 24 and up, destination 40, zero 42.
-        let compacts: [&[(usize, u8)]; 22] = [
+        let compacts: [&[(usize, u8)]; 26] = [
+            &[(0, 0)],
+            &[(2, 0)],
+            &[(2, 11)],
+            &[(3, 255)],
             &[(16, 0)],
             &[(16, 4)],
             &[(17, 0)],

@@ -310,6 +310,26 @@ impl Cases {
                 self.add("page-field", Call::Recover, &broken);
             }
         }
+        // Whole pages that would be in form in another region.
+        let entries = |page| vec![Entry { key: 0, page }];
+        let misplaced = [
+            (0, Body::Empty),
+            (0, Body::Base(entries(8))),
+            (1, Body::Leaf(vec![row(20)])),
+            (1, Body::Root(entries(1))),
+            (8, Body::Base(entries(8))),
+            (8, Body::Root(Vec::new())),
+            (7, Body::Leaf(vec![row(70)])),
+            (63, Body::Base(entries(8))),
+        ];
+        for (place, body) in misplaced {
+            let mut other = tree.clone();
+            put_page(&mut other.work, place, 0, body.clone());
+            self.add("page-region", Call::Find { key: 20 }, &other);
+            self.add("page-region", ALL, &other);
+            put_page(&mut other.store, place, 0, body);
+            self.add("page-region", Call::Recover, &other);
+        }
         for (place, number) in [(0, 5), (1, LAST), (8, LAST)] {
             let mut stamped = tree.clone();
             put32(page_of_mut(&mut stamped.work, place), 4, number);
@@ -376,6 +396,15 @@ impl Cases {
             (11, leaf(&[60])),
             (2, Body::Empty),
         ];
+        // The first root key is 1, and its base page's first key too.
+        let mut late = tree.clone();
+        for (place, body) in [root(&[(1, 1), (50, 2)]), base(1, &[(1, 8), (30, 9)])] {
+            put_page(&mut late.work, place, 0, body.clone());
+            put_page(&mut late.store, place, 0, body);
+        }
+        self.add("tree-field", ALL, &late);
+        self.add("tree-field", Call::BeginOrder, &late);
+        self.add("tree-field", Call::Recover, &late);
         for (i, (place, body)) in changes.into_iter().enumerate() {
             let mut broken = tree.clone();
             put_page(&mut broken.work, place, 0, body);

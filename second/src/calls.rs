@@ -1,7 +1,7 @@
 //! The ten calls over lent buffers. Each runs its tests in the order that
 //! document 01 gives, and writes only after the last of them.
 
-use crate::bytes::{page_of, page_of_mut, Numbers, LOG_BYTES, PAGES_BYTES, PAGE_COUNT};
+use crate::bytes::{get32, page_of, page_of_mut, Numbers, LOG_BYTES, PAGES_BYTES, PAGE_COUNT};
 use crate::log::{Log, Record, CHECK_BYTES};
 use crate::page::{
     read_pages, Body, Entry, Page, Row, BASES, LEAVES, MOST_ENTRIES, MOST_ROWS, ROW_BYTES,
@@ -31,8 +31,10 @@ fn test_lengths(pages: &[&[u8]], log: &[u8]) -> Result<(), u8> {
 /// Test 2 of every call but build and recovery.
 fn read_log(numbers: &Numbers, log: &[u8]) -> Result<Log, u8> {
     let read = Log::read(log).ok_or(reply::LOG)?;
+    // Used is the log's end and forced the end of a record, so never below 24
+    // nor above used.
     let used = numbers.used as usize == read.end();
-    let forced = numbers.forced <= numbers.used && read.number_at(numbers.forced).is_some();
+    let forced = read.number_at(numbers.forced).is_some();
     test(used && forced, reply::LOG).map(|()| read)
 }
 
@@ -82,7 +84,10 @@ fn built(
     test_lengths(&[work, store], log)?;
     let (f, g) = (f as usize, g as usize);
     let fills = (1..=MOST_ROWS).contains(&f) && (1..=MOST_ENTRIES).contains(&g);
-    test(fills && records.len() % ROW_BYTES == 0, reply::RANGE)?;
+    test(
+        fills && records.len().is_multiple_of(ROW_BYTES),
+        reply::RANGE,
+    )?;
     let rows: Option<Vec<Row>> = records.chunks(ROW_BYTES).map(Row::read).collect();
     let rows = rows.ok_or(reply::RECORDS)?;
     let ascend = rows.windows(2).all(|two| two[0].key < two[1].key);
@@ -255,7 +260,7 @@ fn flushed(numbers: &Numbers, work: &[u8], store: &[u8], log: &[u8], page: u32) 
     test_lengths(&[work, store], log)?;
     let read = read_log(numbers, log)?;
     test((page as usize) < PAGE_COUNT, reply::RANGE)?;
-    let stamp = crate::bytes::get32(page_of(work, page as u16), 4);
+    let stamp = get32(page_of(work, page as u16), 4);
     let forced = read.number_at(numbers.forced).ok_or(reply::LOG)?;
     test(stamp <= forced, reply::UNFORCED)?;
     Ok(page as u16)

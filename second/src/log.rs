@@ -1,6 +1,6 @@
 //! Log form: how a record stands in bytes, the steps that a begin record
-//! gives, and reading a whole log. A `Log` is always one in form: `read`
-//! accepts record by record, and `append` uses the same test.
+//! gives, and reading a whole log record by record. A `Log` is always one in
+//! form.
 
 use crate::bytes::{all_zero, get16, get32, put16, put32, LOG_BYTES};
 use crate::page::{read_rows, Row, BASES, LEAVES, MOST_ROWS, ROW_BYTES};
@@ -307,7 +307,7 @@ struct Header {
 }
 
 /// The record at the start of `rest`, field by field. What the place in its
-/// unit asks of it is tested later, by `Log::accept`.
+/// unit asks of it is tested later, by `Log::may_follow`.
 fn read_record(rest: &[u8]) -> Option<(Header, Record)> {
     if rest.len() < HEADER {
         return None;
@@ -451,9 +451,14 @@ impl Log {
         };
         while log.end() < LOG_BYTES && bytes[log.end()] != 0 {
             let (header, record) = read_record(&bytes[log.end()..])?;
-            if !log.accept(&header, record) {
+            if !log.may_follow(&header, &record) {
                 return None;
             }
+            log.take(Placed {
+                number: header.number,
+                end: log.end() + header.length,
+                record,
+            });
         }
         all_zero(&bytes[log.end()..]).then_some(log)
     }
@@ -492,40 +497,37 @@ impl Log {
     }
 
     /// Writes the record after the last one; the caller has tested the room
-    /// and the number.
+    /// and the number, and that the record is the one to come next.
     pub fn append(&mut self, bytes: &mut [u8], record: Record) {
         let number = self.last() + 1;
         let written = record.write(number);
-        bytes[self.end()..self.end() + written.len()].copy_from_slice(&written);
-        let header = Header {
-            length: written.len(),
+        let end = self.end() + written.len();
+        bytes[self.end()..end].copy_from_slice(&written);
+        self.take(Placed {
             number,
-            previous: get32(&written, 8),
-        };
-        let accepted = self.accept(&header, record);
-        debug_assert!(accepted, "record {number} is not the next one");
+            end,
+            record,
+        });
     }
 
-    /// Takes the record if it is exactly one that may come next.
-    fn accept(&mut self, header: &Header, record: Record) -> bool {
+    /// Whether the record is exactly one that may come next.
+    fn may_follow(&self, header: &Header, record: &Record) -> bool {
         let next = self.last() as u64 + 1 == header.number as u64;
-        let fits = match (&self.open, &record) {
+        next && match (&self.open, record) {
             (None, Record::Begin(begin)) => {
                 header.previous == 0 && begin.unit as u64 == self.unit as u64 + 1
             }
             (Some(open), _) => {
                 header.previous as u64 + 1 == header.number as u64
-                    && self.follows(open.steps[open.done], &record)
+                    && self.follows(open.steps[open.done], record)
             }
             (None, _) => false,
-        };
-        if !next || !fits {
-            return false;
         }
-        let end = self.end() + header.length;
-        match (&mut self.open, &record) {
-            (Some(_), Record::End { .. }) => self.close(),
-            (Some(open), _) => open.done += 1,
+    }
+
+    /// Takes in a record that may come next.
+    fn take(&mut self, placed: Placed) {
+        match (&mut self.open, &placed.record) {
             (None, Record::Begin(begin)) => {
                 self.unit = begin.unit;
                 self.open = Some(Open {
@@ -534,14 +536,11 @@ impl Log {
                     done: 0,
                 });
             }
+            (_, Record::End { .. }) => self.close(),
+            (Some(open), _) => open.done += 1,
             (None, _) => {}
         }
-        self.records.push(Placed {
-            number: header.number,
-            end,
-            record,
-        });
-        true
+        self.records.push(placed);
     }
 
     /// Whether the record is one that the step may write.

@@ -93,7 +93,8 @@ impl Page {
             number: get32(bytes, 4),
             body,
         };
-        // Bytes 8 to 15 and the unused body are zero, as a written page has them.
+        // The marks of entries, and the zeros of bytes 8 to 15 and of the unused
+        // body, are those of a written page.
         (page.write()[..] == *bytes).then_some(page)
     }
 
@@ -127,6 +128,8 @@ impl Page {
     }
 }
 
+/// Reads `count` entries that ascend strictly and point into `to`; their
+/// marks are left to the caller.
 fn read_entries(bytes: &[u8], count: usize, to: RangeInclusive<u16>) -> Option<Vec<Entry>> {
     if count > MOST_ENTRIES {
         return None;
@@ -138,7 +141,7 @@ fn read_entries(bytes: &[u8], count: usize, to: RangeInclusive<u16>) -> Option<V
             page: get16(at, 6),
         };
         let ascends = entries.last().is_none_or(|before| before.key < entry.key);
-        if &at[..2] != b"en" || !to.contains(&entry.page) || !ascends {
+        if !to.contains(&entry.page) || !ascends {
             return None;
         }
         entries.push(entry);

@@ -321,7 +321,7 @@ impl World<'_> {
     /// Any call with any arguments.
     fn any_call(&mut self) -> Call {
         let number = match self.chance.within(1, 3) {
-            1 => self.chance.next() as u32,
+            1 => self.chance.draw() as u32,
             _ => self.chance.within(0, 70) as u32,
         };
         let other = self.chance.within(0, 70) as u32;
@@ -391,7 +391,7 @@ impl World<'_> {
             1 => numbers.used = numbers.used.wrapping_add(4),
             2 => numbers.forced = self.chance.within(0, 8200) as u32,
             3 => numbers.used = ends[self.chance.within(0, ends.len() as u64 - 1) as usize],
-            _ => numbers.forced = self.chance.next() as u32,
+            _ => numbers.forced = self.chance.draw() as u32,
         }
         if fits(*numbers) {
             self.state.numbers = kept;
@@ -409,8 +409,8 @@ impl World<'_> {
         let chance = &mut self.chance;
         chance.fill(&mut self.state.work);
         self.state.numbers = Numbers {
-            used: chance.next() as u32,
-            forced: chance.next() as u32,
+            used: chance.draw() as u32,
+            forced: chance.draw() as u32,
         };
     }
 
@@ -525,8 +525,8 @@ pub fn random_shape(chance: &mut Chance) -> Vec<BaseShape> {
     };
     let mut shape: Vec<BaseShape> = Vec::new();
     let mut next = chance.within(0, 3) as u32;
-    for i in 0..count {
-        let least = if i == 0 { 0 } else { next };
+    for (i, &page) in places.iter().take(count).enumerate() {
+        let least = next;
         let mut keys = Vec::new();
         for _ in 0..chance.within(1, most) {
             keys.push(next + chance.within(0, 6) as u32);
@@ -540,11 +540,7 @@ pub fn random_shape(chance: &mut Chance) -> Vec<BaseShape> {
             0 => 0,
             _ => chance.within(least as u64, keys[0] as u64) as u32,
         };
-        let leaf = LeafShape {
-            page: places[i],
-            entry,
-            keys,
-        };
+        let leaf = LeafShape { page, entry, keys };
         // The bases left must be able to take the leaves left.
         let full = shape
             .last()

@@ -1,7 +1,7 @@
 //! One set of buffers, the calls on it as values, and trees made by hand:
 //! what runs, vectors and tests are written in.
 
-use crate::bytes::{page_of_mut, Numbers, LOG_BYTES, PAGES_BYTES, PAGE_COUNT};
+use crate::bytes::{get32, page_of_mut, Numbers, LOG_BYTES, PAGES_BYTES, PAGE_COUNT};
 use crate::calls;
 use crate::log::{Begin, Log, Record, Type, CHECK_BYTES};
 use crate::page::{Body, Entry, Page, Row, MOST_ROWS, ROW_BYTES};
@@ -249,7 +249,7 @@ impl State {
         let fits = |moves: usize, bytes: usize| {
             let least = 132 * moves;
             bytes >= least
-                && (bytes - least) % ROW_BYTES == 0
+                && (bytes - least).is_multiple_of(ROW_BYTES)
                 && (moves..=MOST_ROWS * moves).contains(&((bytes - least) / ROW_BYTES))
         };
         let mut moves = (0..).find(|&moves| fits(moves, bytes)).unwrap_or(0);
@@ -308,8 +308,8 @@ impl State {
         let mut numbers = [0; 8];
         rubbish(&mut numbers);
         self.numbers = Numbers {
-            used: crate::bytes::get32(&numbers, 0),
-            forced: crate::bytes::get32(&numbers, 4),
+            used: get32(&numbers, 0),
+            forced: get32(&numbers, 4),
         };
     }
 }
@@ -350,8 +350,13 @@ fn a_move(unit: u32, out: u32, rows: u32) -> [Record; 5] {
     ]
 }
 
-/// A tree in short: base pages, each with its leaves as page, entry key, keys.
-pub fn shape(bases: &[(u16, &[(u16, u32, &[u32])])]) -> Vec<BaseShape> {
+/// A leaf in short: page, entry key, keys.
+pub type ShortLeaf<'a> = (u16, u32, &'a [u32]);
+/// A base page in short: page, leaves.
+pub type ShortBase<'a> = (u16, &'a [ShortLeaf<'a>]);
+
+/// A tree written in short.
+pub fn shape(bases: &[ShortBase]) -> Vec<BaseShape> {
     bases
         .iter()
         .map(|&(page, leaves)| BaseShape {

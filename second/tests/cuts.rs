@@ -6,7 +6,7 @@ use second::log::Log;
 use second::runs::{runs, Program};
 use second::state::{Answer, Call, State, Values};
 
-const RUNS: u64 = 2_500;
+const RUNS: u64 = 2_000;
 const SEED: u64 = 1;
 /// Runs within which a planted fault must show.
 const PLANTED_RUNS: u64 = 200;

@@ -359,7 +359,7 @@ fn damage(chance: &mut Chance, bytes: &mut [u8], used: usize) {
         let most = if chance.one_in(5) { bytes.len() } else { used };
         let at = chance.within(0, most as u64 - 1) as usize;
         bytes[at] = match chance.within(1, 4) {
-            1 => chance.next() as u8,
+            1 => chance.draw() as u8,
             2 => bytes[at].wrapping_add(1),
             3 => bytes[at].wrapping_sub(1),
             _ => 0,
@@ -374,7 +374,7 @@ fn damage_page(chance: &mut Chance, pages: &mut [u8]) {
 
 fn any_call(chance: &mut Chance) -> Call {
     let number = match chance.within(1, 3) {
-        1 => chance.next() as u32,
+        1 => chance.draw() as u32,
         _ => chance.within(0, 66) as u32,
     };
     let other = chance.within(0, 66) as u32;

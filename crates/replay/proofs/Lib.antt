@@ -1,0 +1,4 @@
+-- The theorem, from runs of records over one page up to every history, what it says of the single calls, and a small format.
+pub mod Runs
+pub mod Page
+pub mod Pages

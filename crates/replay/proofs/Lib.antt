@@ -2,3 +2,6 @@
 pub mod Runs
 pub mod Page
 pub mod Pages
+pub mod Uncut
+pub mod Kept
+pub mod Theorem

@@ -5,3 +5,4 @@ pub mod Pages
 pub mod Uncut
 pub mod Kept
 pub mod Theorem
+pub mod Toy

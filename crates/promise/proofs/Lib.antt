@@ -1,3 +1,5 @@
--- The rows hold.
+-- The rows hold; and demand 3, from the generic half and the units.
 pub mod Computed
 pub mod RowsHold
+pub mod Standing
+pub mod OnPages

@@ -17,16 +17,17 @@ use Rattle.page.specs.Page.{number, base, leaf, empty, isBase, isLeaf, isEmpty,
 use Rattle.page.specs.Change.{emptied, appended, redirected, removed}
 use Rattle.page.specs.Pages.{page, putPage}
 use Rattle.page.proofs.Rows.{Each, Long}
-use Rattle.page.proofs.Kept.{Changed, emptied-kept, appended-kept, redirected-kept, removed-kept}
+use Rattle.page.proofs.Kept.{Changed, emptied-kept, appended-kept, redirected-kept, removed-kept, bytes-emptied, bytes-appended, bytes-redirected, bytes-removed}
 use Rattle.log.specs.Record.{Begin, Rec, LB, LO, LI, LM, LE}
+use Rattle.log.proofs.Valid.{Moved}
 use Rattle.unit.specs.Next.{target, change, changedAt, apply, repeat, repeatAll}
 use Rattle.unit.proofs.Places.{Leafy, Basic, RecKeeps}
 
--- the rows of an LI: one or more of 16 bytes
+-- the rows of an LI are those that an LO took out
 abbrev pub RowsOf : Rec → Type 0
 RowsOf (LB g) = Unit {0}
 RowsOf (LO org dest rs) = Unit {0}
-RowsOf (LI org dest back rs) = Each (Long 16) rs × (1 ≤ length rs)
+RowsOf (LI org dest back rs) = Moved rs
 RowsOf (LM base old new key) = Unit {0}
 RowsOf (LE unit) = Unit {0}
 
@@ -95,7 +96,7 @@ change-leaves n p (LB g) pg pg′ k rows small t e = absurd (some-none p t)
 change-leaves n p (LO org dest rs) pg pg′ k rows small t e =
     rw (← (some-eq org p t)) (empty-left n org pg′ (omega (arith, k .0)) (emptied-kept n rs pg pg′ e small))
 change-leaves n p (LI org dest back rs) pg pg′ k rows small t e =
-    rw (← (some-eq dest p t)) (leaf-left n dest _ pg′ (k .0) (appended-kept n rs pg pg′ e small (rows .0) (rows .1)))
+    rw (← (some-eq dest p t)) (leaf-left n dest _ pg′ (k .0) (appended-kept n rs pg pg′ e small (rows .long) (rows .some-rows)))
 change-leaves n p (LM b old new key) pg pg′ k rows small t e =
     rw (← (some-eq b p t)) (modify-left n b key old new pg pg′ (k .0) (k .1) small e)
 change-leaves n p (LE unit) pg pg′ k rows small t e = absurd (some-none p t)
@@ -108,3 +109,18 @@ target-page p (LO org dest rs) k t = omega (arith, some-eq org p t, k .1)
 target-page p (LI org dest back rs) k t = omega (arith, some-eq dest p t, k .1)
 target-page p (LM b old new key) k t = omega (arith, some-eq b p t, k .0 .1)
 target-page p (LE unit) k t = absurd (some-none p t)
+
+-- an LM, by whether it removes
+modify-bytes : (b : Bool) (n key old new : ℕ) (pg pg′ : List ℕ) → Bytes pg → pick b (removed n key old pg) (redirected n key old new pg) ≡ some pg′ → Bytes pg′
+unfolding pick
+modify-bytes true n key old new pg pg′ h e = bytes-removed n key old pg pg′ e h
+modify-bytes false n key old new pg pg′ h e = bytes-redirected n key old new pg pg′ e h
+
+-- a page of bytes stays one
+pub change-bytes : (n : ℕ) (r : Rec) (pg pg′ : List ℕ) → RowsOf r → Bytes pg → change n r pg ≡ some pg′ → Bytes pg′
+unfolding change
+change-bytes n (LB g) pg pg′ rows h e = let q : pg ≡ pg′ = cc in rw (← q) h
+change-bytes n (LO org dest rs) pg pg′ rows h e = bytes-emptied n rs pg pg′ e h
+change-bytes n (LI org dest back rs) pg pg′ rows h e = bytes-appended n rs pg pg′ e h (rows .bytes)
+change-bytes n (LM b old new key) pg pg′ rows h e = modify-bytes (eqb new 0) n key old new pg pg′ h e
+change-bytes n (LE unit) pg pg′ rows h e = let q : pg ≡ pg′ = cc in rw (← q) h

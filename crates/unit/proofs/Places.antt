@@ -180,7 +180,7 @@ does-keeps (does-in e) h = h
 does-keeps (does-point b) h = h
 does-keeps does-close h = h
 
-follows-keeps : {u : ℕ} {o : Option Open} {r : Rec} → Follows u o r → OpenKeeps o → RecKeeps r
+pub follows-keeps : {u : ℕ} {o : Option Open} {r : Rec} → Follows u o r → OpenKeeps o → RecKeeps r
 follows-keeps (begins e ok) h = tt
 follows-keeps (goes {x = x} {xs = xs} e d) h = does-keeps d (keeping-head x xs _ e h)
 

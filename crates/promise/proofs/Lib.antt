@@ -3,3 +3,4 @@ pub mod Computed
 pub mod RowsHold
 pub mod Standing
 pub mod OnPages
+pub mod Image

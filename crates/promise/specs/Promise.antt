@@ -1,0 +1,116 @@
+-- Demand 3, over bytes and over the calls' own definitions. `History` holds of every state that calls and power cuts can lead to;
+-- `Kept` is what is promised of recovery in such a state. What is assumed of the chip stands in `Cut` alone. Assumes nothing.
+use Prim.Native.Nat.{ℕ, _+_, _-_, _/_, _≤_}
+use mathlib.Core.Path.{_≡_}
+use mathlib.Core.Bool.{Bool, true, false}
+use mathlib.Core.List.{List, [], _∷_, _++_}
+use mathlib.Core.Option.{Option, some, none}
+use lib.ListN.{length, take}
+use Rattle.field.specs.Bytes.{Bytes, zeroes}
+use Rattle.page.specs.Page.{rowsOf}
+use Rattle.page.specs.Pages.{pages}
+use Rattle.log.specs.Record.{Check, Rec}
+use Rattle.log.specs.Log.{Log, readLog, atEnd, lastForced}
+use Rattle.tree.specs.Tree.{wellFormed, allRecords}
+use Rattle.store.specs.Calls.{Lent, lent, Left, threeSized, logLength, newLog, build, recover, beginCompact, beginOrder, step, flush, force, checkpoint, find, list}
+
+-- ---- calls
+
+-- any call but build and recovery, with its arguments
+pub data Call : Type 0 where
+  toBeginCompact : (fill : ℕ) → Call
+  toBeginOrder : Call
+  toStep : Call
+  toFlush : (p : ℕ) → Call
+  toForce : Call
+  toCheckpoint : (clear : Bool) → Call
+  toFind : (key : ℕ) → Call
+  toList : (low high : ℕ) → Call
+
+-- what it leaves of what it is lent
+unfoldable pub does : Call → Lent → Left
+does (toBeginCompact fill) d = beginCompact fill d
+does toBeginOrder d = beginOrder d
+does toStep d = step d
+does (toFlush p) d = flush p d
+does toForce d = force d
+does (toCheckpoint clear) d = checkpoint clear d
+does (toFind key) d = find key d
+does (toList low high) d = list low high d
+
+-- pages and log hold bytes
+pub record InBytes (d : Lent) : Type 0 where
+  pub work : Bytes (d .work)
+  pub store : Bytes (d .store)
+  pub log : Bytes (d .log)
+
+-- ---- cuts
+
+-- the supply fails: the work pages and the two numbers are lost, so that any bytes and numbers stand there afterwards; the store keeps
+-- every page; the log keeps whole records, not fewer than are forced (its first `forced` bytes), with zeros behind them
+pub record Cut (forced : ℕ) (d d′ : Lent) : Type 0 where
+  pub bytes : InBytes d′
+  pub store : d′ .store ≡ d .store
+  pub kept : ℕ  -- how many bytes of the log are kept
+  pub before : Log  -- the log as it was
+  pub was : readLog (d .log) ≡ some before
+  pub number : ℕ
+  pub whole : lastForced kept before ≡ some number  -- a record ends there
+  pub enough : forced ≤ kept
+  pub log : d′ .log ≡ take kept (d .log) ++ zeroes (logLength - kept)
+
+-- ---- histories
+
+-- calls and cuts, from a start with the records rs, lead to the buffers and numbers d. `forced` is how many bytes of the log calls have
+-- forced, whatever the numbers say after a cut; on: the work pages are there, off: a cut has come and no recovery was accepted since
+pub data History (rs : List (List ℕ)) : (d : Lent) (forced : ℕ) (on : Bool) → Type 0 where
+  -- a finished build
+  built : (f g : ℕ) (d : Lent) → Bytes (d .bytes) → build f g d .reply ≡ 0 → rs ≡ rowsOf 16 (length (d .bytes) / 16) (d .bytes)
+      → History rs (build f g d .now) 24 true
+  -- an accepted recovery whose log held only its check record
+  woken : (d : Lent) (c : Check) → InBytes d → recover d .reply ≡ 0 → readLog (d .log) ≡ some (record { top = c; recs = [] })
+      → rs ≡ allRecords (pages (recover d .now .work)) → History rs (recover d .now) 24 true
+  -- any call, accepted or refused
+  called : {d : Lent} {forced : ℕ} (k : Call) → History rs d forced true → History rs (does k d .now) (does k d .now .forced) true
+  -- a cut between any two writes, also one after another
+  cut : {d d′ : Lent} {forced : ℕ} {on : Bool} → History rs d forced on → Cut forced d d′ → History rs d′ forced false
+  -- an accepted recovery; it forces the log as it found it. A cut within it is one before it or one after it that keeps fewer of its records
+  recovery : {d : Lent} {forced : ℕ} {on : Bool} → History rs d forced on → recover d .reply ≡ 0 → History rs (recover d .now) (recover d .now .forced) true
+  -- list may be lent any room
+  lentRoom : {d : Lent} {forced : ℕ} {on : Bool} (b : List ℕ) → History rs d forced on
+      → History rs (lent (d .used) (d .forced) (d .work) (d .store) (d .log) b) forced on
+
+-- ---- what is promised
+
+-- from the pages o and a log of the check record c alone, begins and steps, all accepted and none cut, lead to e
+pub data Uncut (o : List ℕ) (c : Check) : (e : Lent) → Type 0 where
+  start : Uncut o c (lent 24 24 o [] (newLog c) [])
+  compact : {e : Lent} (fill : ℕ) → Uncut o c e → beginCompact fill e .reply ≡ 0 → Uncut o c (beginCompact fill e .now)
+  order : {e : Lent} → Uncut o c e → beginOrder e .reply ≡ 0 → Uncut o c (beginOrder e .now)
+  onward : {e : Lent} → Uncut o c e → step e .reply ≡ 0 → Uncut o c (step e .now)
+
+-- recovery lent d is accepted, and leaves a well-formed tree with exactly the starting records, every begun unit complete, log and work pages
+-- byte for byte those of a run of the surviving log without a cut
+pub record Kept (rs : List (List ℕ)) (d : Lent) : Type 0 where
+  pub accepted : recover d .reply ≡ 0
+  pub tree : wellFormed (pages (recover d .now .work)) ≡ true
+  pub records : allRecords (pages (recover d .now .work)) ≡ rs
+  pub found : Log  -- the log as it was found
+  pub was : readLog (d .log) ≡ some found
+  pub left : Log  -- and as it is left
+  pub is : readLog (recover d .now .log) ≡ some left
+  pub complete : atEnd left .opened ≡ none
+  pub grown : List Rec
+  pub surviving : left ≡ record { top = found .top; recs = found .recs ++ grown }
+  pub count : recover d .values ≡ length grown ∷ []
+  pub few : length grown ≤ 25
+  pub origin : List ℕ  -- the pages when the check record was written
+  pub run : Lent
+  pub uncut : Uncut origin (found .top) run
+  pub same-work : run .work ≡ recover d .now .work
+  pub same-log : run .log ≡ recover d .now .log
+
+-- demand 3
+abbrev pub Demand3 : Type 0
+Demand3 =
+    (rs : List (List ℕ)) (d : Lent) (forced : ℕ) (on : Bool) → History rs d forced on → threeSized d ≡ true → Kept rs d

@@ -4,3 +4,4 @@ pub mod RowsHold
 pub mod Standing
 pub mod OnPages
 pub mod Image
+pub mod Forward

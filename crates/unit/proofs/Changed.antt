@@ -18,6 +18,7 @@ use Rattle.page.specs.Change.{emptied, appended, redirected, removed}
 use Rattle.page.specs.Pages.{page, putPage}
 use Rattle.page.proofs.Rows.{Each, Long}
 use Rattle.page.proofs.Kept.{Changed, emptied-kept, appended-kept, redirected-kept, removed-kept, bytes-emptied, bytes-appended, bytes-redirected, bytes-removed}
+use Rattle.page.proofs.Pages.{bytes-page, bytes-putPage}
 use Rattle.log.specs.Record.{Begin, Rec, LB, LO, LI, LM, LE}
 use Rattle.log.proofs.Valid.{Moved}
 use Rattle.unit.specs.Next.{target, change, changedAt, apply, repeat, repeatAll}
@@ -124,3 +125,17 @@ change-bytes n (LO org dest rs) pg pg′ rows h e = bytes-emptied n rs pg pg′ 
 change-bytes n (LI org dest back rs) pg pg′ rows h e = bytes-appended n rs pg pg′ e h (rows .bytes)
 change-bytes n (LM b old new key) pg pg′ rows h e = modify-bytes (eqb new 0) n key old new pg pg′ h e
 change-bytes n (LE unit) pg pg′ rows h e = let q : pg ≡ pg′ = cc in rw (← q) h
+
+-- and so do all pages
+at-bytes : (t : Option ℕ) (f : List ℕ → Option (List ℕ)) (w w′ : List ℕ) → ((pg pg′ : List ℕ) → Bytes pg → f pg ≡ some pg′ → Bytes pg′) → Bytes w
+    → changedAt t f w ≡ some w′ → Bytes w′
+unfolding changedAt
+at-bytes none f w w′ h b e = let q : w ≡ w′ = cc in rw (← q) b
+at-bytes (some p) f w w′ h b e =
+    let x = bind-some (f (page p w)) (λ pg. some (putPage p pg w)) w′ e in
+    let q : putPage p (x .from) w ≡ w′ = let y : some (putPage p (x .from) w) ≡ some w′ = x .gives in cc in
+    rw (← q) (bytes-putPage p (x .from) w (h (page p w) (x .from) (bytes-page p w b) (x .was)) b)
+
+pub apply-bytes : (n : ℕ) (r : Rec) (w w′ : List ℕ) → RowsOf r → Bytes w → apply n r w ≡ some w′ → Bytes w′
+unfolding apply
+apply-bytes n r w w′ rows b e = at-bytes (target r) (change n r) w w′ (λ pg pg′ h q. change-bytes n r pg pg′ rows h q) b e

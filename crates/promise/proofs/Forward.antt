@@ -1,0 +1,233 @@
+-- The next record of an open unit fits the log; and a step and recovery's finishing, on bytes, are what the generic half says of them.
+-- Assumes nothing.
+use Prim.Native.Nat.{ℕ, zero, suc, _+_, _-_, _≤_, _<_}
+use native.Mathlib.Omega.{arith}
+use mathlib.Core.Path.{_≡_, refl, sym, ap, _∙_, subst}
+use mathlib.Core.Logic.{_⊎_, inl, inr, ⊎-elim}
+use mathlib.Core.Bool.{Bool, true, false}
+use mathlib.Core.List.{List, [], _∷_, _++_}
+use mathlib.Core.Option.{Option, some, none, Option·some-injective}
+use mathlib.Core.Option as Option
+use lib.ListN.{length, drop}
+use lib.Dec.{eqb, leb}
+use borrow.Author.Tests.{leb-true, le-leb}
+use Rattle.field.specs.Test.{both, pick, need, given, when, bind}
+use Rattle.field.specs.Bytes.{Bytes, put, most4}
+use Rattle.field.proofs.Test.{both-1, both-2, need-true, given-some, bind-some, bind-intro, Bound, when-some}
+use Rattle.field.proofs.Number.{le4-small}
+use Rattle.field.proofs.Byte.{bytes-nil}
+use Rattle.page.specs.Page.{keyOf, toPage, entries, records, leaf, isLeaf, shaped}
+use Rattle.page.specs.Pages.{page}
+use Rattle.page.proofs.Rows.{Each}
+use Rattle.page.proofs.Made.{Fill, fit-leaf}
+use Rattle.page.proofs.Kept.{fill-of, bytes-rows}
+use Rattle.page.proofs.Pages.{bytes-page}
+use Rattle.log.specs.Record.{Check, Rec, LB, LO, LI, LM, LE, size, encode}
+use Rattle.log.specs.Plan.{Step, takeOut, bringIn, point, close}
+use Rattle.log.specs.Log.{Open, State, going, openedBy, after, taken, Log, atEnd}
+use Rattle.log.proofs.Plan.{Works, works-out, works-in, works-point, Ending}
+use Rattle.log.proofs.State.{number-atEnd}
+use Rattle.log.proofs.Valid.{Moved, Does, does-out, does-in, does-point, does-close, Follows, begins, goes, Fits, Good}
+use Rattle.log.proofs.Sound.{Sound, Waits, Awaits, waits-open, sound-atEnd}
+use Rattle.log.proofs.Append.{atEnd-grown, good-grown}
+use Rattle.unit.specs.Next.{apply, repeat, repeatAll, targetOf, pageOf, keyBefore, isOther, lowestTo, skipped, nextRec, stepSize, room}
+use Rattle.unit.proofs.Places.{end-keeps}
+use Rattle.unit.proofs.Changed.{apply-bytes}
+use Rattle.store.specs.Calls.{Went, stopped, went, andThen, didOf, todoOf, append, logLength}
+use Rattle.store.specs.Calls as Calls
+use Rattle.replay.specs.Store.{run}
+use Rattle.replay.specs.Store as Replay
+use Rattle.promise.specs.Parts.{logOf, stateOf, nextOf, store}
+use Rattle.promise.proofs.Image.{image, put-image}
+use Rattle.promise.proofs.Standing.{Standing, fits-standing}
+
+-- ---- the next record
+
+none-not : {A : Type 0} (a : A) → none ≡ some a → ⊥
+none-not a e = let z : _≡_ {A = ℕ} 0 1 = cc in omega arith
+
+-- the key of an entry of bytes fits
+pick-small : (t : Bool) (x : List ℕ) (k : ℕ) (o : Option ℕ) → Bytes x → (o ≡ some k → k ≤ most4) → pick t (some (keyOf x)) o ≡ some k → k ≤ most4
+unfolding pick keyOf
+pick-small true x k o b rest q = omega (arith, le4-small x 2 b, Option·some-injective (keyOf x) k q)
+pick-small false x k o b rest q = rest q
+
+lowest-small : (skip : Option ℕ) (p k : ℕ) (es : List (List ℕ)) → Each Bytes es → lowestTo skip p es ≡ some k → k ≤ most4
+unfolding lowestTo
+lowest-small skip p k [] b e = absurd (none-not k e)
+lowest-small skip p k (x ∷ es) (Each.cons b bs) e =
+    pick-small (both (eqb (toPage x) p) (isOther skip (keyOf x))) x k (lowestTo skip p es) b (λ q. lowest-small skip p k es bs q) e
+
+-- a leaf's records are what an LO may carry
+leaf-moved : (pg : List ℕ) → Bytes pg → isLeaf pg ≡ true → Moved (records pg)
+unfolding isLeaf
+leaf-moved pg b e =
+    let f : Fill leaf (records pg) = fill-of leaf pg fit-leaf e in
+    record { some-rows = f .enough; few-rows = f .room; long = f .long; bytes = bytes-rows 16 pg b; order = f .order }
+
+page-bytes : (t : Option ℕ) (w : List ℕ) → Bytes w → Bytes (pageOf t w)
+unfolding pageOf
+page-bytes none w b = bytes-nil
+page-bytes (some p) w b = bytes-page p w b
+
+-- the record of a step does it
+pub next-does : (x : Step) (did : List Rec) (pg : List ℕ) (r : Rec) → Bytes pg → nextRec x did pg ≡ some r → Does did x r
+unfolding nextRec
+next-does (takeOut org dest) did pg r b e =
+    let w = when-some (isLeaf pg) (LO org dest (records pg)) r e in
+    rw (← (w .1)) (does-out (leaf-moved pg b (w .0)))
+next-does (bringIn org dest back) did pg r b e = rw (← (Option·some-injective _ r e)) (does-in refl)
+next-does (point base old new other) did pg r b e =
+    let w = bind-some (lowestTo (skipped other did) old (entries pg)) (λ k. some (LM base old new k)) r e in
+    rw (← (Option·some-injective _ r (w .gives)))
+    (does-point (lowest-small (skipped other did) old (w .from) (entries pg) (bytes-rows 8 pg b) (w .was)))
+next-does (close unit) did pg r b e = rw (← (Option·some-injective _ r e)) does-close
+
+-- what `nextOf` has tested
+pub record Next (x : Step) (xs : List Step) (s : State) (w : List ℕ) (r : Rec) : Type 0 where
+  pub record-of : nextRec x (didOf (s .opened)) (pageOf (targetOf x) w) ≡ some r
+  pub fits : s .at + room w (x ∷ xs) ≤ logLength
+  pub numbered : s .number + 1 ≤ most4
+
+pub next-facts : (x : Step) (xs : List Step) (s : State) (w : List ℕ) (r : Rec) → nextOf (x ∷ xs) s w ≡ some r → Next x xs s w r
+unfolding nextOf
+next-facts x xs s w r e =
+    let b = bind-some (nextRec x (didOf (s .opened)) (pageOf (targetOf x) w)) _ r e in
+    let t = when-some _ (b .from) r (b .gives) in
+    record {
+      record-of = b .was ∙ ap some (t .1);
+      fits = leb-true (s .at + room w (x ∷ xs)) logLength (both-1 _ _ (t .0));
+      numbered = leb-true (s .number + 1) most4 (both-2 _ _ (t .0));
+    }
+
+-- an open unit whose steps to come are x, xs
+pub record Opened (s : State) (x : Step) (xs : List Step) : Type 0 where
+  pub unit : Open
+  pub is : s .opened ≡ some unit
+  pub todo : unit .todo ≡ x ∷ xs
+
+opened-of : (s : State) (o : Option Open) (x : Step) (xs : List Step) → s .opened ≡ o → todoOf o ≡ x ∷ xs → Opened s x xs
+unfolding todoOf
+opened-of s none x xs e t = absurd (cons-not e t)
+  where
+    cons-not : s .opened ≡ none → [] ≡ x ∷ xs → ⊥
+    cons-not i q = let z : _≡_ {A = ℕ} 0 (suc (length xs)) = ap length q in omega arith
+opened-of s (some o) x xs e t = record { unit = o; is = e; todo = t }
+
+pub opened-at : (s : State) (x : Step) (xs : List Step) → todoOf (s .opened) ≡ x ∷ xs → Opened s x xs
+opened-at s x xs t = opened-of s (s .opened) x xs refl t
+
+did-of : (s : State) (o : Open) → s .opened ≡ some o → didOf (s .opened) ≡ o .did
+unfolding didOf
+did-of s o e = rw e
+
+-- the next record fits the log
+pub next-fits : (s : State) (x : Step) (xs : List Step) (w : List ℕ) (r : Rec) → Bytes w → Opened s x xs → Next x xs s w r → Fits s r
+next-fits s x xs w r b o n =
+    let d : Does (o .unit .did) x r =
+    next-does x (o .unit .did) (pageOf (targetOf x) w) r (page-bytes (targetOf x) w b) (rw (did-of s (o .unit) (o .is)) at (n .record-of)) in
+    record { room = n .numbered; follows = rw (o .is) (goes (o .todo) d) }
+
+works-not : {x : Step} (v : ℕ) → Works x → x ≡ close v → ⊥
+works-not v works-out e = let z : _≡_ {A = ℕ} 0 1 = cc in omega arith
+works-not v works-in e = let z : _≡_ {A = ℕ} 0 1 = cc in omega arith
+works-not v works-point e = let z : _≡_ {A = ℕ} 0 1 = cc in omega arith
+
+-- after LE nothing is to come
+ending-close : {u : ℕ} (v : ℕ) (x : Step) (xs : List Step) → Ending u (x ∷ xs) → x ≡ close v → xs ≡ []
+ending-close v x xs Ending.last e = refl
+ending-close v x xs (Ending.more w h) e = absurd (works-not v w e)
+
+-- after the next record the steps to come are the others
+does-todo : {u : ℕ} {did : List Rec} {x : Step} {r : Rec} (o : Open) (xs : List Step) → Does did x r → o .todo ≡ x ∷ xs → Ending u (x ∷ xs)
+    → todoOf (openedBy r (some o)) ≡ xs
+unfolding todoOf openedBy bind going
+does-todo o xs (does-out m) e h = rw e
+does-todo o xs (does-in q) e h = rw e
+does-todo o xs (does-point k) e h = rw e
+does-todo o xs (does-close {unit = v}) e h = sym (ending-close v (close v) xs h refl)
+
+-- the unit that is open at the end of a good log
+pub awaits-at : (c : Check) (l : List Rec) (x : Step) (xs : List Step) → Good (logOf c l) → (o : Opened (stateOf c l) x xs) → Awaits (stateOf c l .unit) (o .unit)
+awaits-at c l x xs g o = waits-open (subst (Waits (stateOf c l .unit)) (o .is) (sound-atEnd (logOf c l) g .waits))
+
+follows-does : {u : ℕ} (o : Open) (x : Step) (xs : List Step) (r : Rec) → Follows u (some o) r → o .todo ≡ x ∷ xs → Does (o .did) x r
+follows-does o x xs r (goes {x = y} {xs = ys} e d) t = let q : y ≡ x = cc in rw q at d
+
+pub todo-after : (c : Check) (l : List Rec) (x : Step) (xs : List Step) (r : Rec) → Good (logOf c l) → Opened (stateOf c l) x xs → Fits (stateOf c l) r
+    → todoOf (stateOf c (l ++ (r ∷ [])) .opened) ≡ xs
+unfolding after
+todo-after c l x xs r g o f =
+    let a : Awaits (stateOf c l .unit) (o .unit) = awaits-at c l x xs g o in
+    let d : Does (o .unit .did) x r = follows-does (o .unit) x xs r (rw (o .is) at (f .follows)) (o .todo) in
+    rw (atEnd-grown (logOf c l) r, o .is) (does-todo (o .unit) xs d (o .todo) (rw (o .todo) at (a .todo)))
+
+-- ---- one record appended, on bytes
+
+pub append-is : (c : Check) (l : List Rec) (x : Step) (xs : List Step) (w w′ : List ℕ) (r : Rec) → Good (logOf c l) → Fits (stateOf c l) r
+    → Next x xs (stateOf c l) w r → apply (stateOf c l .number + 1) r w ≡ some w′
+    → append x xs (stateOf c l) w (image c l) ≡ went (stateOf c (l ++ (r ∷ []))) w′ (image c (l ++ (r ∷ [])))
+unfolding append
+append-is c l x xs w w′ r g f n e =
+    given-some _ r (stopped 5) _ (n .record-of)
+    ∙ given-some _ w′ (stopped 5) _ e
+    ∙ need-true _ (stopped 6) _ (le-leb (stateOf c l .at + room w (x ∷ xs)) logLength (n .fits))
+    ∙ need-true _ (stopped 7) _ (le-leb (stateOf c l .number + 1) most4 (n .numbered))
+    ∙ rw (put-image c l r g f, atEnd-grown (logOf c l) r)
+
+-- ---- what is left of a unit, on bytes
+
+generic-bind : {A B : Type 0} (o : Option A) (f : A → Option B) (y : B) → Option.bind o f ≡ some y → Bound o f y
+unfolding Option.bind
+generic-bind none f y e = absurd (none-not y e)
+generic-bind (some a) f y e = record { from = a; was = refl; gives = e }
+
+-- the generic finish, one record at a time
+record Turn (c : Check) (x : Step) (xs : List Step) (w : List ℕ) (l : List Rec) (y : List ℕ × List Rec) : Type 0 where
+  added : Rec
+  next : Next x xs (stateOf c l) w added
+  work : List ℕ
+  applies : apply (stateOf c l .number + 1) added w ≡ some work
+  then : Replay.finish store c (length xs) work (l ++ (added ∷ [])) ≡ some y
+
+turn : (c : Check) (x : Step) (xs : List Step) (w : List ℕ) (l : List Rec) (y : List ℕ × List Rec) → todoOf (stateOf c l .opened) ≡ x ∷ xs
+    → Replay.finish store c (suc (length xs)) w l ≡ some y → Turn c x xs w l y
+unfolding Replay.finish
+turn c x xs w l y t e =
+    let a = generic-bind (nextOf (todoOf (stateOf c l .opened)) (stateOf c l) w) _ y e in
+    let b = generic-bind (apply (c .number + length l + 1) (a .from) w) _ y (a .gives) in
+    let n : nextOf (x ∷ xs) (stateOf c l) w ≡ some (a .from) = rw t at (a .was) in
+    record {
+      added = a .from;
+      next = next-facts x xs (stateOf c l) w (a .from) n;
+      work = b .from;
+      applies = rw (number-atEnd (logOf c l)) (b .was);
+      then = b .gives;
+    }
+
+pub finish-is : (c : Check) (todo : List Step) (w : List ℕ) (l : List Rec) (w′ : List ℕ) (l′ : List Rec) → Good (logOf c l) → Bytes w
+    → todoOf (stateOf c l .opened) ≡ todo → Replay.finish store c (length todo) w l ≡ some (w′, l′)
+    → Calls.finish todo (stateOf c l) w (image c l) ≡ went (stateOf c l′) w′ (image c l′)
+unfolding Calls.finish
+finish-is c [] w l w′ l′ g b t e =
+    let q : (w, l) ≡ (w′, l′) = Option·some-injective (w, l) (w′, l′) (unfold Replay.finish in e) in
+    subst (λ (y : List ℕ × List Rec). went (stateOf c l) w (image c l) ≡ went (stateOf c (y .1)) (y .0) (image c (y .1))) q refl
+finish-is c (x ∷ xs) w l w′ l′ g b t e =
+    let u : Turn c x xs w l (w′, l′) = turn c x xs w l (w′, l′) t e in
+    let r : Rec = u .added in
+    let o : Opened (stateOf c l) x xs = opened-at (stateOf c l) x xs t in
+    let f : Fits (stateOf c l) r = next-fits (stateOf c l) x xs w r b o (u .next) in
+    let k : Standing (stateOf c l .number + 1) r = fits-standing (sound-atEnd (logOf c l) g) (end-keeps (logOf c l) g) f in
+    rw (append-is c l x xs w (u .work) r g f (u .next) (u .applies))
+    (unfold andThen in
+    finish-is c xs (u .work) (l ++ (r ∷ [])) w′ l′ (good-grown (logOf c l) r g f) (apply-bytes (stateOf c l .number + 1) r w (u .work) (k .rows) b (u .applies))
+    (todo-after c l x xs r g o f) (u .then))
+
+-- ---- the log repeated
+
+pub repeat-is : (n : ℕ) (rs : List Rec) (w w′ : List ℕ) → run repeat n rs w ≡ some w′ → repeatAll n rs w ≡ some w′
+unfolding run repeatAll
+repeat-is n [] w w′ e = e
+repeat-is n (r ∷ rs) w w′ e =
+    let a = generic-bind (repeat n r w) (run repeat (n + 1) rs) w′ e in
+    bind-intro (repeat n r w) (repeatAll (n + 1) rs) (a .from) (a .was) ∙ repeat-is (n + 1) rs (a .from) w′ (a .gives)

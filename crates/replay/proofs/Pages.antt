@@ -69,8 +69,8 @@ module _ (F : Format) (M : Meaning F) (P : PageLaws F M) where
   -- a record repeated at a page, as a function; it leaves the page in form
   again-of : (p n : ℕ) (r : Rec) (x y : Page) → Again stamp (DoesAt p) n r x y → again F n r p x ≡ some y
   unfolding again
-  again-of p n r x y (stays k) = rw (le-leb n (stamp x) k)
-  again-of p n r x y (goes k d) = rw (lt-leb n (stamp x) k) (d .made)
+  again-of p n r x y (stays k) = rw (le-leb, k)
+  again-of p n r x y (goes k d) = rw (lt-leb, k) (d .made)
 
   again-formed : (p n : ℕ) (r : Rec) (x y : Page) → Form p x → Again stamp (DoesAt p) n r x y → Form p y
   again-formed p n r x y f (stays k) = f
@@ -81,7 +81,7 @@ module _ (F : Format) (M : Meaning F) (P : PageLaws F M) where
       → ((p : ℕ) → p < many → (pg : Page) × Again stamp (DoesAt p) n r (at v p) pg)
       → (w : Pages) × (repeat n r v ≡ some w) × Formed F M w × ((p : ℕ) (i : p < many) (pg : Page) → Again stamp (DoesAt p) n r (at v p) pg → pg ≡ at w p)
   again-pages n r v s f h =
-      let (w, e) = P .repeats n r v s f (λ p i. (h p i .0, again-of p n r (at v p) (h p i .0) (h p i .1))) in
+      let (w, e) = P .repeat-accepted n r v s f (λ p i. (h p i .0, again-of p n r (at v p) (h p i .0) (h p i .1))) in
       let (z, k) = P .repeated n r v w s f e in
       let same : (p : ℕ) (i : p < many) (pg : Page) → Again stamp (DoesAt p) n r (at v p) pg → pg ≡ at w p =
       λ p i pg a. Option·some-injective pg (at w p) (sym (again-of p n r (at v p) pg a) ∙ k p i) in (

@@ -160,7 +160,7 @@ toy-pages = record {
   formed = λ n r p x y s i f e. tt;
   applied = λ n r v w s f e. (tt, each-at (change n r) v w e);
   repeated = λ n r v w s f e. (tt, each-at (repeated n r) v w e);
-  repeats = λ n r v s f h. each-some (repeated n r) v h;
+  repeat-accepted = λ n r v s f h. each-some (repeated n r) v h;
 }
 
 -- from a fine tree, after the record that opens a unit

@@ -35,7 +35,7 @@ module _ (F : Format) (M : Meaning F) where
     -- a record repeated is its change of each page with a lower stamp, and is refused only where one of these is
     pub repeated : (n : ℕ) (r : Rec) (v w : Pages) → Stands n r → Formed F M v → repeat n r v ≡ some w
         → Sized w × ((p : ℕ) → p < many → again F n r p (at v p) ≡ some (at w p))
-    pub repeats : (n : ℕ) (r : Rec) (v : Pages) → Stands n r → Formed F M v → ((p : ℕ) → p < many → (pg : Page) × (again F n r p (at v p) ≡ some pg))
+    pub repeat-accepted : (n : ℕ) (r : Rec) (v : Pages) → Stands n r → Formed F M v → ((p : ℕ) → p < many → (pg : Page) × (again F n r p (at v p) ≡ some pg))
         → (w : Pages) × (repeat n r v ≡ some w)
 
   -- the log is in form, and either no unit is open and the tree is fine, or the next record applies, one fewer is lacking, and so on

@@ -131,6 +131,7 @@ each-some : (f : ℕ → Page → Option Page) (v : Pages) → ((p : ℕ) → p 
 unfolding bind
 each-some f v h = let (a, x) = h 0 (omega arith) in let (b, y) = h 1 (omega arith) in (pair a b, rw (x, y))
 
+-- a page that is changed is stamped
 change-stamped : (n : ℕ) (r : Rec) (p : ℕ) (x y : Page) → change n r p x ≡ some y → (y ≡ x) ⊎ (y .stamp ≡ n)
 change-stamped n opens p x y e = inl (sym (Option·some-injective x y e))
 change-stamped n one zero x y e = inr (ap (λ (pg : Page). pg .stamp) (sym (Option·some-injective (more-by n 2 x) y e)))
@@ -139,6 +140,7 @@ change-stamped n both zero x y e = inr (ap (λ (pg : Page). pg .stamp) (sym (Opt
 change-stamped n both (suc p) x y e = inr (ap (λ (pg : Page). pg .stamp) (sym (Option·some-injective (more-by n 3 x) y e)))
 change-stamped n ends p x y e = inl (sym (Option·some-injective x y e))
 
+-- the copied page, and the other
 copy-at : (v w : Pages) (p : ℕ) → at (copy p v w) p ≡ at v p
 copy-at v w zero = refl
 copy-at v w (suc p) = refl
@@ -149,6 +151,7 @@ copy-beside v w zero (suc q) i j d = refl
 copy-beside v w (suc p) zero i j d = refl
 copy-beside v w (suc p) (suc q) i j d = absurd (omega arith)
 
+-- so the laws of pages hold
 toy-pages : PageLaws toy means
 unfolding again
 toy-pages = record {
@@ -183,6 +186,7 @@ opens-keeps : (n : ℕ) (r : Rec) (w w′ : Pages) → r ≡ opens → each (cha
 unfolding bind
 opens-keeps n r w w′ b e = Option·some-injective w w′ (rw b at e)
 
+-- so the laws of units hold
 toy-units : UnitLaws toy means
 toy-units = record {
   none-open = λ c. refl;
@@ -190,6 +194,7 @@ toy-units = record {
   checked = λ c c′ w l s e. (tt, e);
 }
 
+-- and the theorem with them
 toy-theorem : {o s : Pages} {x : Option Pages} {c : ℕ} {l : List Rec} {f : ℕ} → Reached toy means o x s c l f → Recovers toy means o s c l
 toy-theorem g = theorem toy means toy-pages toy-units g
 
@@ -198,6 +203,7 @@ toy-theorem g = theorem toy means toy-pages toy-units g
 abbrev page : ℕ → ℕ → Page
 page n v = record { stamp = n; value = v }
 
+-- the start: two zeros
 toy-settled : Settled toy means (pair (page 0 0) (page 0 0)) 1 []
 toy-settled = record { formed = record { sized = tt; form = λ p i. tt }; shape = tt; low = low; fine = refl; complete = refl }
   where
@@ -205,6 +211,7 @@ toy-settled = record { formed = record { sized = tt; form = λ p i. tt }; shape 
     low zero i = omega arith
     low (suc p) i = omega arith
 
+-- begin, two steps, force, flush, cut
 toy-torn : Reached toy means (pair (page 0 0) (page 0 0)) none (pair (page 4 3) (page 0 0)) 1 (opens ∷ (one ∷ (both ∷ []))) 3
 unfolding bind
 toy-torn =

@@ -1,9 +1,9 @@
 -- Runs without cuts: they keep form and stamps, every beginning of their log is one too, and their open unit can always be finished.
 -- Assumes nothing.
-use Prim.Native.Nat.{ℕ, zero, suc, _+_, _≤_, _<_}
+use Prim.Native.Nat.{ℕ, suc, _+_, _≤_, _<_}
 use mathlib.Core.Path.{_≡_, refl, sym, _∙_}
 use mathlib.Core.List.{List, [], _∷_, _++_, append-nil, append-assoc}
-use mathlib.Core.Option.{Option, some, bind, Option·some-injective}
+use mathlib.Core.Option.{some, bind, Option·some-injective}
 use native.Mathlib.Decide.{decLe}
 use native.Mathlib.Omega.{arith}
 use lib.ListN.{length, take, length-append}
@@ -20,10 +20,12 @@ module _ (F : Format) (M : Meaning F) where
 
   -- ---- units that can be finished
 
+  -- the log is in form
   pub able-shape : {c : Check} {w : Pages} {l : List Rec} → Able F M c w l → Shape c l
   able-shape (closed s z f) = s
   able-shape (more s k j n a t) = s
 
+  -- with no unit open the tree is fine
   pub able-fine : {c : Check} {w : Pages} {l : List Rec} → Able F M c w l → left c l ≡ 0 → Fine w
   able-fine (closed s z f) e = f
   able-fine (more s k j n a t) e = absurd (omega arith)
@@ -45,6 +47,7 @@ module _ (F : Format) (M : Meaning F) where
 
   -- ---- beginnings of a run's log
 
+  -- of a log with one record more
   prefix-snoc : {o w : Pages} {c : Check} (l : List Rec) (r : Rec) → Uncut F M o c w (l ++ (r ∷ []))
       → ((m : ℕ) → m ≤ length l → (v : Pages) × Uncut F M o c v (take m l))
       → (m : ℕ) → m ≤ length (l ++ (r ∷ [])) → (v : Pages) × Uncut F M o c v (take m (l ++ (r ∷ [])))
@@ -54,6 +57,7 @@ module _ (F : Format) (M : Meaning F) where
         | no k ↦ (w, rw (take-all m (l ++ (r ∷ [])) (omega (arith, length-append l (r ∷ [])))) u)
       ]
 
+  -- the first m records are those of an uncut run, to other pages
   pub prefix : {o w : Pages} {c : Check} {l : List Rec} → Uncut F M o c w l → (m : ℕ) → m ≤ length l → (v : Pages) × Uncut F M o c v (take m l)
   prefix {o = o} Uncut.start m h = (o, rw (take-nil m) Uncut.start)
   prefix (Uncut.begin {l = l} {r = r} u z g e) m h = prefix-snoc l r (Uncut.begin u z g e) (λ k i. prefix u k i) m h
@@ -70,6 +74,7 @@ module _ (F : Format) (M : Meaning F) where
     pub complete : left c (l ++ rest) ≡ 0
     pub uncut : Uncut F M o c work (l ++ rest)
 
+  -- an uncut run that can be finished is, by steps
   pub finished : {o w : Pages} {c : Check} {l : List Rec} → Uncut F M o c w l → Able F M c w l → Finished o c w l
   unfolding finish bind
   finished {w = w} {l = l} u (closed s z f) =
@@ -89,7 +94,6 @@ module _ (F : Format) (M : Meaning F) where
 
 module _ (F : Format) (M : Meaning F) (P : PageLaws F M) (U : UnitLaws F M) where
   open Format F using (Page, Pages, Rec, Check, many, at, stamp, apply, num, left)
-  open Meaning M using (Form)
 
   -- ---- what an uncut run from settled pages o keeps
 
@@ -126,6 +130,7 @@ module _ (F : Format) (M : Meaning F) (P : PageLaws F M) (U : UnitLaws F M) wher
       record { stands = record { top = c; before = l; numbered = refl; shape = able-shape F M a }; formed = s .formed; made = e } in
       record { formed = does-formed F M P (last F c l + 1) r w w′ d; able = a; history = run-snoc (omega arith) (s .history) d }
 
+  -- every uncut run from settled pages
   pub sound : {o w : Pages} {c : Check} {l : List Rec} → Settled F M o c [] → Uncut F M o c w l → Sound o c w l
   sound g Uncut.start = record { formed = g .formed; able = closed (g .shape) (g .complete) (g .fine); history = done }
   sound {c = c} g (Uncut.begin {w = w} {w′ = w′} {l = l} {r = r} u z h e) =

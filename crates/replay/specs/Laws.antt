@@ -4,7 +4,7 @@ use Prim.Native.Nat.{ℕ, suc, _+_, _<_}
 use mathlib.Core.Path.{_≡_}
 use mathlib.Core.List.{List, [], _∷_, _++_}
 use mathlib.Core.Logic.{_⊎_, _≢_}
-use mathlib.Core.Option.{Option, some}
+use mathlib.Core.Option.{some}
 use Rattle.replay.specs.Store.{Format, last, again, Meaning, Formed, Settled}
 
 module _ (F : Format) (M : Meaning F) where

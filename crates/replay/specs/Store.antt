@@ -35,7 +35,7 @@ pub record Format : Type 1 where
   pub next : Check → Pages → List Rec → Option Rec  -- the open unit's next record; none: refused
 
 module _ (F : Format) where
-  open Format F using (Page, Pages, Rec, Check, many, at, copy, stamp, change, apply, repeat, num, left, next)
+  open Format F using (Page, Pages, Rec, Check, stamp, change, apply, repeat, num, left, next)
 
   -- the number of the log's last record
   abbrev pub last : Check → List Rec → ℕ
@@ -65,7 +65,7 @@ pub record Meaning (F : Format) : Type 1 where
   pub Checks : F .Check → List (F .Rec) → F .Check → Type 0  -- a checkpoint call writes this check record
 
 module _ (F : Format) (M : Meaning F) where
-  open Format F using (Page, Pages, Rec, Check, many, at, copy, stamp, change, apply, repeat, num, left, next)
+  open Format F using (Pages, Rec, Check, many, at, copy, stamp, apply, num, left, next)
   open Meaning M using (Sized, Form, Shape, Fine, Begins, Checks)
 
   -- pages of the right length, each in form

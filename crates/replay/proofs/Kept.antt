@@ -148,14 +148,16 @@ module _ (F : Format) (M : Meaning F) (P : PageLaws F M) (U : UnitLaws F M) wher
       }
 
   -- checkpoint: the pages, which are the store, are those that the new log begins with
-  pub kept-checkpoint : {o v s : Pages} {c c′ : Check} {f : ℕ} {l : List Rec} → Kept o v s c l f → left c l ≡ 0 → v ≡ s → Checks c l c′ → Kept v v s c′ [] 0
+  pub kept-checkpoint : {o v s : Pages} {c c′ : Check} {f : ℕ} {l : List Rec} → Kept o v s c l f → left c l ≡ 0 → v ≡ s → Checks c l c′
+      → Kept v v s c′ [] 0
   kept-checkpoint {v = v} {c = c} {c′ = c′} {l = l} k z e h =
       let t = sound-settled F M P U (k .origin) (kept-sound k) z in
       let (a, b) = U .checked c c′ v l t h in
       kept-start (record { formed = t .formed; shape = a; low = λ p i. omega (arith, t .low p i); fine = t .fine; complete = U .none-open c′ }) e
 
   -- cut: what the forced records left is still what they left
-  pub kept-cut : {o v s : Pages} {c : Check} {f : ℕ} {l : List Rec} (m : ℕ) → Kept o v s c l f → f ≤ m → m ≤ length l → (u : Pages) × Kept o u s c (take m l) f
+  pub kept-cut : {o v s : Pages} {c : Check} {f : ℕ} {l : List Rec} (m : ℕ) → Kept o v s c l f → f ≤ m → m ≤ length l
+      → (u : Pages) × Kept o u s c (take m l) f
   kept-cut {l = l} m k a b =
       let (u, d) = prefix F M (k .uncut) m b in (
         u,

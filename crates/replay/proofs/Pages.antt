@@ -82,7 +82,8 @@ module _ (F : Format) (M : Meaning F) (P : PageLaws F M) where
   -- a record repeated at every page is repeated over all pages
   again-pages : (n : ℕ) (r : Rec) (v : Pages) → Stands F M n r → Formed F M v
       → ((p : ℕ) → p < many → (pg : Page) × Again stamp (DoesAt p) n r (at v p) pg)
-      → (w : Pages) × (repeat n r v ≡ some w) × Formed F M w × ((p : ℕ) (i : p < many) (pg : Page) → Again stamp (DoesAt p) n r (at v p) pg → pg ≡ at w p)
+      → (w : Pages) × (repeat n r v ≡ some w) × Formed F M w
+      × ((p : ℕ) (i : p < many) (pg : Page) → Again stamp (DoesAt p) n r (at v p) pg → pg ≡ at w p)
   again-pages n r v s f h =
       let (w, e) = P .repeat-accepted n r v s f (λ p i. (h p i .0, again-of p n r (at v p) (h p i .0) (h p i .1))) in
       let (z, k) = P .repeated n r v w s f e in

@@ -50,7 +50,8 @@ module _ {R X : Type 0} {D : ℕ → R → X → X → Type 0} where
       (z, then d a, renumbered (omega arith) b)
 
   -- where a record leads to one end at most, so does a run
-  pub run-same : ((n : ℕ) (r : R) (x y z : X) → D n r x y → D n r x z → y ≡ z) → {n : ℕ} {rs : List R} {x y z : X} → Runs D n rs x y → Runs D n rs x z → y ≡ z
+  pub run-same : ((n : ℕ) (r : R) (x y z : X) → D n r x y → D n r x z → y ≡ z) → {n : ℕ} {rs : List R} {x y z : X}
+      → Runs D n rs x y → Runs D n rs x z → y ≡ z
   run-same f done k = run-nil k
   run-same f (then {n = n} {r = r} {x = x} {z = u} d h) k =
       let (v, e, t) = run-cons k in

@@ -127,7 +127,8 @@ each-at f v w e = go
     go (suc (suc p)) i = absurd (omega arith)
 
 -- f refuses neither page, so not both
-each-some : (f : ℕ → Page → Option Page) (v : Pages) → ((p : ℕ) → p < 2 → (pg : Page) × (f p (at v p) ≡ some pg)) → (w : Pages) × (each f v ≡ some w)
+each-some : (f : ℕ → Page → Option Page) (v : Pages) → ((p : ℕ) → p < 2 → (pg : Page) × (f p (at v p) ≡ some pg))
+    → (w : Pages) × (each f v ≡ some w)
 unfolding bind
 each-some f v h = let (a, x) = h 0 (omega arith) in let (b, y) = h 1 (omega arith) in (pair a b, rw (x, y))
 
@@ -224,6 +225,7 @@ toy-torn =
     (omega arith)
 
 -- recovery gives page 1 its change, which the store lacks, leaves page 0 with the one that it has, and ends the unit
-toy-recovers : recover toy 1 (pair (page 4 3) (page 0 0)) (opens ∷ (one ∷ (both ∷ []))) ≡ some (pair (page 4 3) (page 4 3), opens ∷ (one ∷ (both ∷ (ends ∷ []))))
+toy-recovers : recover toy 1 (pair (page 4 3) (page 0 0)) (opens ∷ (one ∷ (both ∷ [])))
+    ≡ some (pair (page 4 3) (page 4 3), opens ∷ (one ∷ (both ∷ (ends ∷ []))))
 unfolding recover run finish bind
 toy-recovers = refl

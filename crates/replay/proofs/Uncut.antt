@@ -32,7 +32,8 @@ module _ (F : Format) (M : Meaning F) where
 
   -- with a unit open there is a next record, and it applies
   pub able-next : {c : Check} {w : Pages} {l : List Rec} {k : ℕ} → Able F M c w l → left c l ≡ suc k
-      → (r : Rec) × (w′ : Pages) × (next c w l ≡ some r) × (apply (last F c l + 1) r w ≡ some w′) × (left c (l ++ (r ∷ [])) ≡ k) × Able F M c w′ (l ++ (r ∷ []))
+      → (r : Rec) × (w′ : Pages) × (next c w l ≡ some r) × (apply (last F c l + 1) r w ≡ some w′) × (left c (l ++ (r ∷ [])) ≡ k)
+      × Able F M c w′ (l ++ (r ∷ []))
   able-next (closed s z f) e = absurd (omega arith)
   able-next (more {w′ = w′} {r = r} s k j n a t) e = (r, w′, n, a, omega arith, t)
 
@@ -103,12 +104,13 @@ module _ (F : Format) (M : Meaning F) (P : PageLaws F M) (U : UnitLaws F M) wher
     pub history : Runs (Does F M P) (num c + 1) l o w
 
   -- at one page
-  pub page-history : {o w : Pages} {c : Check} {l : List Rec} → Sound o c w l → (p : ℕ) → p < many → Runs (DoesAt F M P p) (num c + 1) l (at o p) (at w p)
+  pub page-history : {o w : Pages} {c : Check} {l : List Rec} → Sound o c w l → (p : ℕ) → p < many
+      → Runs (DoesAt F M P p) (num c + 1) l (at o p) (at w p)
   page-history s = run-at F M P (s .history)
 
   -- what a run at one page from settled pages leaves has a stamp of the run at most
-  pub page-stamp : {o : Pages} {c : Check} {l : List Rec} {pg : Page} → Settled F M o c [] → (p : ℕ) → p < many → Runs (DoesAt F M P p) (num c + 1) l (at o p) pg
-      → stamp pg ≤ last F c l
+  pub page-stamp : {o : Pages} {c : Check} {l : List Rec} {pg : Page} → Settled F M o c [] → (p : ℕ) → p < many
+      → Runs (DoesAt F M P p) (num c + 1) l (at o p) pg → stamp pg ≤ last F c l
   page-stamp g p i h = omega (arith, stamp-below stamp (DoesAt F M P p) (at-same F M P p) (at-stamped F M P p) (omega (arith, g .low p i)) h)
 
   -- between two units the run is settled
@@ -123,8 +125,8 @@ module _ (F : Format) (M : Meaning F) (P : PageLaws F M) (U : UnitLaws F M) wher
       }
 
   -- one record more
-  sound-snoc : {o w w′ : Pages} {c : Check} (l : List Rec) (r : Rec) → Sound o c w l → Able F M c w′ (l ++ (r ∷ [])) → apply (last F c l + 1) r w ≡ some w′
-      → Sound o c w′ (l ++ (r ∷ []))
+  sound-snoc : {o w w′ : Pages} {c : Check} (l : List Rec) (r : Rec) → Sound o c w l → Able F M c w′ (l ++ (r ∷ []))
+      → apply (last F c l + 1) r w ≡ some w′ → Sound o c w′ (l ++ (r ∷ []))
   sound-snoc {w = w} {w′ = w′} {c = c} l r s a e =
       let d : Does F M P (last F c l + 1) r w w′ =
       record { stands = record { top = c; before = l; numbered = refl; shape = able-shape F M a }; formed = s .formed; made = e } in

@@ -15,7 +15,8 @@ use Rattle.replay.specs.Laws.{PageLaws, UnitLaws}
 use Rattle.replay.proofs.Runs.{Runs, done, run-of, run-split}
 use Rattle.replay.proofs.Page.{Again, stamp-changed, again-run}
 use Rattle.replay.proofs.Pages.{DoesAt, at-same, at-stamped, run-formed, again-all}
-use Rattle.replay.proofs.Uncut.{able-shape, prefix, finished, Sound, page-history, page-stamp, sound-settled, sound}
+use Rattle.replay.proofs.Able.{able-shape}
+use Rattle.replay.proofs.Uncut.{prefix, finished, Sound, page-history, page-stamp, sound-settled, sound}
 
 module _ (F : Format) (M : Meaning F) (P : PageLaws F M) (U : UnitLaws F M) where
   open Format F using (Page, Pages, Rec, Check, many, at, copy, stamp, apply, repeat, num, left)

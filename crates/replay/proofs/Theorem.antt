@@ -8,7 +8,8 @@ use native.Mathlib.Omega.{arith}
 use lib.ListN.{length, take}
 use Rattle.replay.specs.Store.{Format, last, finish, recover, Meaning, Formed, Settled, Uncut, Reached, Recovers}
 use Rattle.replay.specs.Laws.{PageLaws, UnitLaws}
-use Rattle.replay.proofs.Uncut.{able-next, page-history, page-stamp, sound-settled}
+use Rattle.replay.proofs.Able.{able-next}
+use Rattle.replay.proofs.Uncut.{page-history, page-stamp, sound-settled}
 use Rattle.replay.proofs.Kept.{
   Kept,
   kept-sound,

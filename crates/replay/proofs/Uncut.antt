@@ -1,50 +1,22 @@
 -- Runs without cuts: they keep form and stamps, every beginning of their log is one too, and their open unit can always be finished.
 -- Assumes nothing.
-use Prim.Native.Nat.{ℕ, suc, _+_, _≤_, _<_}
-use mathlib.Core.Path.{_≡_, refl, sym, _∙_}
+use Prim.Native.Nat.{ℕ, _+_, _≤_, _<_}
+use mathlib.Core.Path.{_≡_, refl, sym}
 use mathlib.Core.List.{List, [], _∷_, _++_, append-nil, append-assoc}
-use mathlib.Core.Option.{some, bind, Option·some-injective}
+use mathlib.Core.Option.{some, bind}
 use native.Mathlib.Decide.{decLe}
 use native.Mathlib.Omega.{arith}
 use lib.ListN.{length, take, length-append}
 use lib.Seq.{take-append-le, take-all, take-nil}
 use Rattle.replay.specs.Store.{Format, last, finish, Meaning, Formed, Settled, Uncut}
 use Rattle.replay.specs.Laws.{PageLaws, UnitLaws, Able, closed, more}
+use Rattle.replay.proofs.Able.{able-shape, able-fine, able-step}
 use Rattle.replay.proofs.Runs.{Runs, done, run-snoc}
 use Rattle.replay.proofs.Page.{stamp-below}
 use Rattle.replay.proofs.Pages.{Does, DoesAt, at-same, at-stamped, does-formed, run-at}
 
 module _ (F : Format) (M : Meaning F) where
-  open Format F using (Pages, Rec, Check, apply, left, next)
-  open Meaning M using (Shape, Fine)
-
-  -- ---- units that can be finished
-
-  -- the log is in form
-  pub able-shape : {c : Check} {w : Pages} {l : List Rec} → Able F M c w l → Shape c l
-  able-shape (closed s z f) = s
-  able-shape (more s k j n a t) = s
-
-  -- with no unit open the tree is fine
-  pub able-fine : {c : Check} {w : Pages} {l : List Rec} → Able F M c w l → left c l ≡ 0 → Fine w
-  able-fine (closed s z f) e = f
-  able-fine (more s k j n a t) e = absurd (omega arith)
-
-  -- with a unit open there is a next record, and it applies
-  pub able-next : {c : Check} {w : Pages} {l : List Rec} {k : ℕ} → Able F M c w l → left c l ≡ suc k
-      → (r : Rec) × (w′ : Pages) × (next c w l ≡ some r) × (apply (last F c l + 1) r w ≡ some w′) × (left c (l ++ (r ∷ [])) ≡ k)
-      × Able F M c w′ (l ++ (r ∷ []))
-  able-next (closed s z f) e = absurd (omega arith)
-  able-next (more {w′ = w′} {r = r} s k j n a t) e = (r, w′, n, a, omega arith, t)
-
-  -- .. after which it can still be finished
-  pub able-step : {c : Check} {w w′ : Pages} {l : List Rec} {r : Rec} {k : ℕ} → Able F M c w l → left c l ≡ suc k → next c w l ≡ some r
-      → apply (last F c l + 1) r w ≡ some w′ → Able F M c w′ (l ++ (r ∷ []))
-  able-step {w′ = w′} {r = r} a k n e =
-      let (q, v, m, d, j, t) = able-next a k in
-      let x : q ≡ r = Option·some-injective q r (sym m ∙ n) in
-      let y : v ≡ w′ = Option·some-injective v w′ (sym d ∙ rw x e) in
-      rw (← x, ← y) t
+  open Format F using (Pages, Rec, Check, left)
 
   -- ---- beginnings of a run's log
 

@@ -37,9 +37,11 @@ module _ (F : Format) (M : Meaning F) (P : PageLaws F M) (U : UnitLaws F M) wher
   -- ---- what it gives
 
   module _ {o v s : Pages} {c : Check} {l : List Rec} {f : ℕ} (k : Kept o v s c l f) where
+    -- the run is sound
     pub kept-sound : Sound F M P U o c v l
     kept-sound = sound F M P U (k .origin) (k .uncut)
 
+    -- the store is in form
     pub kept-formed : Formed F M s
     kept-formed =
         record {
@@ -64,7 +66,7 @@ module _ (F : Format) (M : Meaning F) (P : PageLaws F M) (U : UnitLaws F M) wher
         (stamp-changed stamp (DoesAt F M P p) (at-same F M P p) (at-stamped F M P p) t) in
         rw e h
 
-    -- the log repeated over one stored page, and over all
+    -- the log repeated over one stored page gives the run's page
     again-page : (p : ℕ) → p < many → Runs (Again stamp (DoesAt F M P p)) (num c + 1) l (at s p) (at v p)
     again-page p i =
         let (n, j, h) = k .stored p i in
@@ -74,6 +76,7 @@ module _ (F : Format) (M : Meaning F) (P : PageLaws F M) (U : UnitLaws F M) wher
         (omega (arith, k .origin .low p i)) h (rw e (page-history F M P U kept-sound p i)) in
         rw e at g
 
+    -- .. so the log repeated over the store gives the run's pages
     pub kept-repeats : run repeat (num c + 1) l s ≡ some v
     kept-repeats = again-all F M P (kept-sound .history) kept-formed (kept-sound .formed .sized) again-page
 

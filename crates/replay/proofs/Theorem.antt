@@ -76,10 +76,11 @@ module _ (F : Format) (M : Meaning F) (P : PageLaws F M) (U : UnitLaws F M) wher
     pub work-uncut : Uncut F M o c w l
     work-uncut = kept-of (holds g) .uncut
 
-    -- they are in form, and their numbers are among the log's
+    -- they are in form
     pub work-formed : Formed F M w
     work-formed = kept-sound F M P U (kept-of (holds g)) .formed
 
+    -- .. their numbers are among the log's
     pub work-low : (p : ℕ) → p < many → stamp (at w p) ≤ last F c l
     work-low p i = let k = kept-of (holds g) in page-stamp F M P U (k .origin) p i (page-history F M P U (kept-sound F M P U k) p i)
 

@@ -14,6 +14,7 @@ use Rattle.replay.specs.Store.{run, Format, again, finish, recover, Mean
 use Rattle.replay.specs.Laws.{PageLaws, UnitLaws, Able, closed, more}
 use Rattle.replay.proofs.Theorem.{theorem}
 
+-- a page: its stamp and its number
 record Page : Type 0 where
   stamp : ℕ
   value : ℕ
@@ -22,6 +23,7 @@ record Pages : Type 0 where
   first : Page
   second : Page
 
+-- the four records of a unit
 data Rec : Type 0 where
   opens one both ends : Rec
 
@@ -30,6 +32,7 @@ data Rec : Type 0 where
 abbrev pair : Page → Page → Pages
 pair a b = record { first = a; second = b }
 
+-- a page by its number; one page copied
 abbrev at : Pages → ℕ → Page
 at w zero = w .first
 at w (suc p) = w .second
@@ -42,6 +45,7 @@ copy (suc p) v w = pair (w .first) (v .second)
 abbrev more-by : ℕ → ℕ → Page → Page
 more-by n k pg = record { stamp = n; value = pg .value + k }
 
+-- what a record does to a page, and what it does repeated
 abbrev change : ℕ → Rec → ℕ → Page → Option Page
 change n opens p pg = some pg
 change n one zero pg = some (more-by n 2 pg)
@@ -59,6 +63,7 @@ repeated n r p pg = cond (leb n (pg .stamp)) (some pg) (change n r p pg)
 
 -- ---- units, by the last record
 
+-- how many records follow, and which is next
 abbrev lacks : Rec → ℕ
 lacks opens = 3
 lacks one = 2
@@ -71,6 +76,7 @@ follows one = some both
 follows both = some ends
 follows ends = none
 
+-- f of the last record, a where there is none
 abbrev ofLast {ℓ} : {A : Type ℓ} → A → (Rec → A) → List Rec → A
 ofLast a f [] = a
 ofLast a f (r ∷ []) = f r
@@ -81,6 +87,7 @@ ofLast-snoc a f [] r = refl
 ofLast-snoc a f (x ∷ []) r = refl
 ofLast-snoc a f (x ∷ (y ∷ l)) r = ofLast-snoc a f (y ∷ l) r
 
+-- the format
 abbrev toy : Format
 toy = record {
   Page = Page;
@@ -99,6 +106,7 @@ toy = record {
   next = λ c w. ofLast none follows;
 }
 
+-- its meaning; lengths and forms ask nothing
 abbrev means : Meaning toy
 means = record {
   Sized = λ w. Unit {0};
@@ -201,6 +209,7 @@ toy-theorem g = theorem toy means toy-pages toy-units g
 
 -- ---- one history: a unit cut short after its third record was forced and page 0 flushed, so that the store is torn
 
+-- the page with this stamp and number
 abbrev page : ℕ → ℕ → Page
 page n v = record { stamp = n; value = v }
 

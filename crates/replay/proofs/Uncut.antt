@@ -70,6 +70,7 @@ module _ (F : Format) (M : Meaning F) (P : PageLaws F M) (U : UnitLaws F M) wher
 
   -- ---- what an uncut run from settled pages o keeps
 
+  -- its pages are in form, its open unit can be finished, and its log gives its pages
   pub record Sound (o : Pages) (c : Check) (w : Pages) (l : List Rec) : Type 0 where
     pub formed : Formed F M w
     pub able : Able F M c w l

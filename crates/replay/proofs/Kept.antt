@@ -1,11 +1,11 @@
 -- What every history keeps: the work pages, lost or not, are those of an uncut run of the log, and each stored page is what some of the
 -- forced records left at its number (how many may differ from page to page). So the log repeated over the store by the stamps gives the uncut
 -- run's pages, and recovery has nothing to refuse. One lemma a rule. Assumes nothing.
-use Prim.Native.Nat.{ℕ, zero, suc, _+_, _≤_, _<_}
-use mathlib.Core.Path.{_≡_, refl, sym, _∙_}
+use Prim.Native.Nat.{ℕ, _+_, _≤_, _<_}
+use mathlib.Core.Path.{_≡_}
 use mathlib.Core.List.{List, [], _∷_, _++_}
 use mathlib.Core.Logic.{⊎-elim}
-use mathlib.Core.Option.{Option, some, bind}
+use mathlib.Core.Option.{some, bind}
 use native.Mathlib.Decide.{ℕ-discrete}
 use native.Mathlib.Omega.{arith}
 use lib.ListN.{length, take, drop, length-append, take-append-drop}
@@ -14,12 +14,13 @@ use Rattle.replay.specs.Store.{run, Format, last, recover, Meaning, Form
 use Rattle.replay.specs.Laws.{PageLaws, UnitLaws}
 use Rattle.replay.proofs.Runs.{Runs, done, run-of, run-split}
 use Rattle.replay.proofs.Page.{Again, stamp-changed, again-run}
-use Rattle.replay.proofs.Pages.{Does, DoesAt, at-same, at-stamped, run-formed, again-all}
-use Rattle.replay.proofs.Uncut.{able-shape, prefix, finished, Sound, page-history, page-stamp, sound-settled, sound}
+use Rattle.replay.proofs.Pages.{DoesAt, at-same, at-stamped, run-formed, again-all}
+use Rattle.replay.proofs.Able.{able-shape}
+use Rattle.replay.proofs.Uncut.{prefix, finished, Sound, page-history, page-stamp, sound-settled, sound}
 
 module _ (F : Format) (M : Meaning F) (P : PageLaws F M) (U : UnitLaws F M) where
   open Format F using (Page, Pages, Rec, Check, many, at, copy, stamp, apply, repeat, num, left)
-  open Meaning M using (Sized, Form, Shape, Checks)
+  open Meaning M using (Sized, Checks)
 
   -- page p is pg after the first n records of l
   abbrev pub After : (o : Pages) (c : Check) (l : List Rec) (p n : ℕ) (pg : Page) → Type 0
@@ -36,9 +37,11 @@ module _ (F : Format) (M : Meaning F) (P : PageLaws F M) (U : UnitLaws F M) wher
   -- ---- what it gives
 
   module _ {o v s : Pages} {c : Check} {l : List Rec} {f : ℕ} (k : Kept o v s c l f) where
+    -- the run is sound
     pub kept-sound : Sound F M P U o c v l
     kept-sound = sound F M P U (k .origin) (k .uncut)
 
+    -- the store is in form
     pub kept-formed : Formed F M s
     kept-formed =
         record {
@@ -63,7 +66,7 @@ module _ (F : Format) (M : Meaning F) (P : PageLaws F M) (U : UnitLaws F M) wher
         (stamp-changed stamp (DoesAt F M P p) (at-same F M P p) (at-stamped F M P p) t) in
         rw e h
 
-    -- the log repeated over one stored page, and over all
+    -- the log repeated over one stored page gives the run's page
     again-page : (p : ℕ) → p < many → Runs (Again stamp (DoesAt F M P p)) (num c + 1) l (at s p) (at v p)
     again-page p i =
         let (n, j, h) = k .stored p i in
@@ -73,6 +76,7 @@ module _ (F : Format) (M : Meaning F) (P : PageLaws F M) (U : UnitLaws F M) wher
         (omega (arith, k .origin .low p i)) h (rw e (page-history F M P U kept-sound p i)) in
         rw e at g
 
+    -- .. so the log repeated over the store gives the run's pages
     pub kept-repeats : run repeat (num c + 1) l s ≡ some v
     kept-repeats = again-all F M P (kept-sound .history) kept-formed (kept-sound .formed .sized) again-page
 
@@ -97,6 +101,7 @@ module _ (F : Format) (M : Meaning F) (P : PageLaws F M) (U : UnitLaws F M) wher
 
   -- ---- each rule keeps it
 
+  -- the start, and where a checkpoint leads
   pub kept-start : {o s : Pages} {c : Check} → Settled F M o c [] → o ≡ s → Kept o o s c [] 0
   kept-start {o} {s} {c} g e =
       record {
@@ -119,6 +124,7 @@ module _ (F : Format) (M : Meaning F) (P : PageLaws F M) (U : UnitLaws F M) wher
         stored = λ p i. let (n, j, h) = k .stored p i in (n, j, rw (take-append-le n l (r ∷ []) (omega (arith, k .forced))) h);
       }
 
+  -- force: what was forced still is
   pub kept-force : {o v s : Pages} {c : Check} {f : ℕ} {l : List Rec} → Kept o v s c l f → Kept o v s c l (length l)
   kept-force {l = l} k =
       record {
@@ -129,6 +135,7 @@ module _ (F : Format) (M : Meaning F) (P : PageLaws F M) (U : UnitLaws F M) wher
         stored = λ p i. let (n, j, h) = k .stored p i in (n, omega (arith, k .forced), h);
       }
 
+  -- flush: the page is what the forced records left
   pub kept-flush : {o v s : Pages} {c : Check} {f : ℕ} {l : List Rec} (p : ℕ) → Kept o v s c l f → p < many → stamp (at v p) ≤ num c + f
       → Kept o v (copy p v s) c l f
   kept-flush {v = v} {s = s} {f = f} p k i b =
@@ -144,13 +151,17 @@ module _ (F : Format) (M : Meaning F) (P : PageLaws F M) (U : UnitLaws F M) wher
         ];
       }
 
-  pub kept-checkpoint : {o v s : Pages} {c c′ : Check} {f : ℕ} {l : List Rec} → Kept o v s c l f → left c l ≡ 0 → v ≡ s → Checks c l c′ → Kept v v s c′ [] 0
+  -- checkpoint: the pages, which are the store, are those that the new log begins with
+  pub kept-checkpoint : {o v s : Pages} {c c′ : Check} {f : ℕ} {l : List Rec} → Kept o v s c l f → left c l ≡ 0 → v ≡ s → Checks c l c′
+      → Kept v v s c′ [] 0
   kept-checkpoint {v = v} {c = c} {c′ = c′} {l = l} k z e h =
       let t = sound-settled F M P U (k .origin) (kept-sound k) z in
       let (a, b) = U .checked c c′ v l t h in
       kept-start (record { formed = t .formed; shape = a; low = λ p i. omega (arith, t .low p i); fine = t .fine; complete = U .none-open c′ }) e
 
-  pub kept-cut : {o v s : Pages} {c : Check} {f : ℕ} {l : List Rec} (m : ℕ) → Kept o v s c l f → f ≤ m → m ≤ length l → (u : Pages) × Kept o u s c (take m l) f
+  -- cut: what the forced records left is still what they left
+  pub kept-cut : {o v s : Pages} {c : Check} {f : ℕ} {l : List Rec} (m : ℕ) → Kept o v s c l f → f ≤ m → m ≤ length l
+      → (u : Pages) × Kept o u s c (take m l) f
   kept-cut {l = l} m k a b =
       let (u, d) = prefix F M (k .uncut) m b in (
         u,
@@ -163,6 +174,7 @@ module _ (F : Format) (M : Meaning F) (P : PageLaws F M) (U : UnitLaws F M) wher
         },
       )
 
+  -- recovery: the store has not changed, and what was forced still is
   pub kept-recovery : {o v s : Pages} {c : Check} {f : ℕ} {l : List Rec} → Kept o v s c l f → (d : Recovers F M o s c l)
       → Kept o (d .work) s c (l ++ d .rest) (length l)
   kept-recovery {l = l} k d =

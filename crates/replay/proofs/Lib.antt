@@ -2,6 +2,7 @@
 pub mod Runs
 pub mod Page
 pub mod Pages
+pub mod Able
 pub mod Uncut
 pub mod Kept
 pub mod Theorem

@@ -20,10 +20,11 @@ module _ {R X : Type 0} {D : ℕ → R → X → X → Type 0} where
   run-of f h done = refl
   run-of f h (then {n = n} {r = r} {x = x} {z = z} d k) = rw (h n r x z d) (run-of f h k)
 
-  -- the empty run; the first record of a run
+  -- the empty run
   pub run-nil : {n : ℕ} {x y : X} → Runs D n [] x y → x ≡ y
   run-nil done = refl
 
+  -- the first record of a run
   pub run-cons : {n : ℕ} {r : R} {rs : List R} {x y : X} → Runs D n (r ∷ rs) x y → (z : X) × D n r x z × Runs D (n + 1) rs z y
   run-cons (then {z = z} d h) = (z, d, h)
 
@@ -31,11 +32,12 @@ module _ {R X : Type 0} {D : ℕ → R → X → X → Type 0} where
   renumbered : {n m : ℕ} {rs : List R} {x y : X} → n ≡ m → Runs D n rs x y → Runs D m rs x y
   renumbered e h = rw (← e) h
 
-  -- a run after a run; a run of one record after a run
+  -- a run after a run
   pub run-append : {n m : ℕ} {rs ss : List R} {x z y : X} → m ≡ n + length rs → Runs D n rs x z → Runs D m ss z y → Runs D n (rs ++ ss) x y
   run-append e done k = renumbered (omega arith) k
   run-append e (then d h) k = then d (run-append (omega arith) h k)
 
+  -- one record after a run
   pub run-snoc : {n m : ℕ} {rs : List R} {r : R} {x z y : X} → m ≡ n + length rs → Runs D n rs x z → D m r z y → Runs D n (rs ++ (r ∷ [])) x y
   run-snoc e h d = run-append e h (then d done)
 
@@ -48,7 +50,8 @@ module _ {R X : Type 0} {D : ℕ → R → X → X → Type 0} where
       (z, then d a, renumbered (omega arith) b)
 
   -- where a record leads to one end at most, so does a run
-  pub run-same : ((n : ℕ) (r : R) (x y z : X) → D n r x y → D n r x z → y ≡ z) → {n : ℕ} {rs : List R} {x y z : X} → Runs D n rs x y → Runs D n rs x z → y ≡ z
+  pub run-same : ((n : ℕ) (r : R) (x y z : X) → D n r x y → D n r x z → y ≡ z) → {n : ℕ} {rs : List R} {x y z : X}
+      → Runs D n rs x y → Runs D n rs x z → y ≡ z
   run-same f done k = run-nil k
   run-same f (then {n = n} {r = r} {x = x} {z = u} d h) k =
       let (v, e, t) = run-cons k in

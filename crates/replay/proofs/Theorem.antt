@@ -1,14 +1,15 @@
 -- The theorem: after any calls and cuts recovery is accepted, and leaves what a run without cuts would have left. Then what the same
 -- says of the single calls while there are work pages. All from the laws of specs/Laws.antt. Assumes nothing.
-use Prim.Native.Nat.{ℕ, zero, suc, _+_, _≤_, _<_}
-use mathlib.Core.Path.{_≡_, refl, sym, ap, _∙_, subst}
+use Prim.Native.Nat.{ℕ, suc, _+_, _≤_, _<_}
+use mathlib.Core.Path.{_≡_, refl, sym, _∙_, subst}
 use mathlib.Core.List.{List, [], _∷_, _++_}
 use mathlib.Core.Option.{Option, none, some, bind, Option·some-injective, Option·none-ne-some}
 use native.Mathlib.Omega.{arith}
 use lib.ListN.{length, take}
 use Rattle.replay.specs.Store.{Format, last, finish, recover, Meaning, Formed, Settled, Uncut, Reached, Recovers}
 use Rattle.replay.specs.Laws.{PageLaws, UnitLaws}
-use Rattle.replay.proofs.Uncut.{able-next, page-history, page-stamp, sound-settled}
+use Rattle.replay.proofs.Able.{able-next}
+use Rattle.replay.proofs.Uncut.{page-history, page-stamp, sound-settled}
 use Rattle.replay.proofs.Kept.{
   Kept,
   kept-sound,
@@ -32,9 +33,11 @@ module _ (F : Format) (M : Meaning F) (P : PageLaws F M) (U : UnitLaws F M) wher
     kept : Kept F M P U o pages s c l f
     work : (w : Pages) → x ≡ some w → pages ≡ w
 
+  -- a state that has them
   with-work : {o w s : Pages} {c : Check} {l : List Rec} {f : ℕ} → Kept F M P U o w s c l f → Holds o (some w) s c l f
   with-work {w = w} k = record { pages = w; kept = k; work = λ v e. Option·some-injective w v e }
 
+  -- .. and back
   kept-of : {o w s : Pages} {c : Check} {l : List Rec} {f : ℕ} → Holds o (some w) s c l f → Kept F M P U o w s c l f
   kept-of {w = w} h = rw (h .work w refl) at (h .kept)
 
@@ -73,10 +76,11 @@ module _ (F : Format) (M : Meaning F) (P : PageLaws F M) (U : UnitLaws F M) wher
     pub work-uncut : Uncut F M o c w l
     work-uncut = kept-of (holds g) .uncut
 
-    -- they are in form, and their numbers are among the log's
+    -- they are in form
     pub work-formed : Formed F M w
     work-formed = kept-sound F M P U (kept-of (holds g)) .formed
 
+    -- .. their numbers are among the log's
     pub work-low : (p : ℕ) → p < many → stamp (at w p) ≤ last F c l
     work-low p i = let k = kept-of (holds g) in page-stamp F M P U (k .origin) p i (page-history F M P U (kept-sound F M P U k) p i)
 

@@ -14,6 +14,7 @@ use Rattle.replay.specs.Store.{run, Format, again, finish, recover, Mean
 use Rattle.replay.specs.Laws.{PageLaws, UnitLaws, Able, closed, more}
 use Rattle.replay.proofs.Theorem.{theorem}
 
+-- a page: its stamp and its number
 record Page : Type 0 where
   stamp : ℕ
   value : ℕ
@@ -22,6 +23,7 @@ record Pages : Type 0 where
   first : Page
   second : Page
 
+-- the four records of a unit
 data Rec : Type 0 where
   opens one both ends : Rec
 
@@ -30,6 +32,7 @@ data Rec : Type 0 where
 abbrev pair : Page → Page → Pages
 pair a b = record { first = a; second = b }
 
+-- a page by its number; one page copied
 abbrev at : Pages → ℕ → Page
 at w zero = w .first
 at w (suc p) = w .second
@@ -42,6 +45,7 @@ copy (suc p) v w = pair (w .first) (v .second)
 abbrev more-by : ℕ → ℕ → Page → Page
 more-by n k pg = record { stamp = n; value = pg .value + k }
 
+-- what a record does to a page, and what it does repeated
 abbrev change : ℕ → Rec → ℕ → Page → Option Page
 change n opens p pg = some pg
 change n one zero pg = some (more-by n 2 pg)
@@ -59,6 +63,7 @@ repeated n r p pg = cond (leb n (pg .stamp)) (some pg) (change n r p pg)
 
 -- ---- units, by the last record
 
+-- how many records follow, and which is next
 abbrev lacks : Rec → ℕ
 lacks opens = 3
 lacks one = 2
@@ -71,6 +76,7 @@ follows one = some both
 follows both = some ends
 follows ends = none
 
+-- f of the last record, a where there is none
 abbrev ofLast {ℓ} : {A : Type ℓ} → A → (Rec → A) → List Rec → A
 ofLast a f [] = a
 ofLast a f (r ∷ []) = f r
@@ -81,6 +87,7 @@ ofLast-snoc a f [] r = refl
 ofLast-snoc a f (x ∷ []) r = refl
 ofLast-snoc a f (x ∷ (y ∷ l)) r = ofLast-snoc a f (y ∷ l) r
 
+-- the format
 abbrev toy : Format
 toy = record {
   Page = Page;
@@ -99,6 +106,7 @@ toy = record {
   next = λ c w. ofLast none follows;
 }
 
+-- its meaning; lengths and forms ask nothing
 abbrev means : Meaning toy
 means = record {
   Sized = λ w. Unit {0};
@@ -127,10 +135,12 @@ each-at f v w e = go
     go (suc (suc p)) i = absurd (omega arith)
 
 -- f refuses neither page, so not both
-each-some : (f : ℕ → Page → Option Page) (v : Pages) → ((p : ℕ) → p < 2 → (pg : Page) × (f p (at v p) ≡ some pg)) → (w : Pages) × (each f v ≡ some w)
+each-some : (f : ℕ → Page → Option Page) (v : Pages) → ((p : ℕ) → p < 2 → (pg : Page) × (f p (at v p) ≡ some pg))
+    → (w : Pages) × (each f v ≡ some w)
 unfolding bind
 each-some f v h = let (a, x) = h 0 (omega arith) in let (b, y) = h 1 (omega arith) in (pair a b, rw (x, y))
 
+-- a page that is changed is stamped
 change-stamped : (n : ℕ) (r : Rec) (p : ℕ) (x y : Page) → change n r p x ≡ some y → (y ≡ x) ⊎ (y .stamp ≡ n)
 change-stamped n opens p x y e = inl (sym (Option·some-injective x y e))
 change-stamped n one zero x y e = inr (ap (λ (pg : Page). pg .stamp) (sym (Option·some-injective (more-by n 2 x) y e)))
@@ -139,6 +149,7 @@ change-stamped n both zero x y e = inr (ap (λ (pg : Page). pg .stamp) (sym (Opt
 change-stamped n both (suc p) x y e = inr (ap (λ (pg : Page). pg .stamp) (sym (Option·some-injective (more-by n 3 x) y e)))
 change-stamped n ends p x y e = inl (sym (Option·some-injective x y e))
 
+-- the copied page, and the other
 copy-at : (v w : Pages) (p : ℕ) → at (copy p v w) p ≡ at v p
 copy-at v w zero = refl
 copy-at v w (suc p) = refl
@@ -149,6 +160,7 @@ copy-beside v w zero (suc q) i j d = refl
 copy-beside v w (suc p) zero i j d = refl
 copy-beside v w (suc p) (suc q) i j d = absurd (omega arith)
 
+-- so the laws of pages hold
 toy-pages : PageLaws toy means
 unfolding again
 toy-pages = record {
@@ -160,7 +172,7 @@ toy-pages = record {
   formed = λ n r p x y s i f e. tt;
   applied = λ n r v w s f e. (tt, each-at (change n r) v w e);
   repeated = λ n r v w s f e. (tt, each-at (repeated n r) v w e);
-  repeats = λ n r v s f h. each-some (repeated n r) v h;
+  repeat-accepted = λ n r v s f h. each-some (repeated n r) v h;
 }
 
 -- from a fine tree, after the record that opens a unit
@@ -183,6 +195,7 @@ opens-keeps : (n : ℕ) (r : Rec) (w w′ : Pages) → r ≡ opens → each (cha
 unfolding bind
 opens-keeps n r w w′ b e = Option·some-injective w w′ (rw b at e)
 
+-- so the laws of units hold
 toy-units : UnitLaws toy means
 toy-units = record {
   none-open = λ c. refl;
@@ -190,14 +203,17 @@ toy-units = record {
   checked = λ c c′ w l s e. (tt, e);
 }
 
+-- and the theorem with them
 toy-theorem : {o s : Pages} {x : Option Pages} {c : ℕ} {l : List Rec} {f : ℕ} → Reached toy means o x s c l f → Recovers toy means o s c l
 toy-theorem g = theorem toy means toy-pages toy-units g
 
 -- ---- one history: a unit cut short after its third record was forced and page 0 flushed, so that the store is torn
 
+-- the page with this stamp and number
 abbrev page : ℕ → ℕ → Page
 page n v = record { stamp = n; value = v }
 
+-- the start: two zeros
 toy-settled : Settled toy means (pair (page 0 0) (page 0 0)) 1 []
 toy-settled = record { formed = record { sized = tt; form = λ p i. tt }; shape = tt; low = low; fine = refl; complete = refl }
   where
@@ -205,6 +221,7 @@ toy-settled = record { formed = record { sized = tt; form = λ p i. tt }; shape 
     low zero i = omega arith
     low (suc p) i = omega arith
 
+-- begin, two steps, force, flush, cut
 toy-torn : Reached toy means (pair (page 0 0) (page 0 0)) none (pair (page 4 3) (page 0 0)) 1 (opens ∷ (one ∷ (both ∷ []))) 3
 unfolding bind
 toy-torn =
@@ -217,6 +234,7 @@ toy-torn =
     (omega arith)
 
 -- recovery gives page 1 its change, which the store lacks, leaves page 0 with the one that it has, and ends the unit
-toy-recovers : recover toy 1 (pair (page 4 3) (page 0 0)) (opens ∷ (one ∷ (both ∷ []))) ≡ some (pair (page 4 3) (page 4 3), opens ∷ (one ∷ (both ∷ (ends ∷ []))))
+toy-recovers : recover toy 1 (pair (page 4 3) (page 0 0)) (opens ∷ (one ∷ (both ∷ [])))
+    ≡ some (pair (page 4 3) (page 4 3), opens ∷ (one ∷ (both ∷ (ends ∷ []))))
 unfolding recover run finish bind
 toy-recovers = refl

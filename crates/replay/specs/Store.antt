@@ -1,5 +1,5 @@
--- Demand 3, the half that knows nothing of trees and bytes: pages that bear the number of their last change, a log of numbered records,
--- and every order of calls and power cuts. `Format` is what pages, records and units do, `Meaning` what is asked of them. `Reached` holds of
+-- Demand 3, the half that knows nothing of trees and bytes: pages that bear the number of their last change, a log of numbered records, and
+-- every order of calls and power cuts. `Format` is what pages, records and units do, `Meaning` what is asked of them. `Reached` holds of
 -- whatever a history leads to, `Recovers` says what recovery must then give. proofs/Theorem.antt shows it from the laws in Laws.antt.
 -- A cut keeps the store as it is, every record of the log that was forced, and any number of those behind. Assumes nothing.
 use Prim.Native.Nat.{ℕ, zero, suc, _+_, _≤_, _<_}
@@ -21,27 +21,37 @@ run f n (r ∷ rs) x = bind (f n r x) (run f (n + 1) rs)
 pub record Format : Type 1 where
   pub Page : Type 0
   pub Pages : Type 0
-  pub Rec : Type 0  -- any record but the check record
+  -- a record other than the check record
+  pub Rec : Type 0
   pub Check : Type 0
-  pub many : ℕ  -- the page numbers are those below it
-  pub at : Pages → (p : ℕ) → Page  -- page p
-  pub copy : (p : ℕ) → (from to : Pages) → Pages  -- `to`, with page p as it is in `from`
-  pub stamp : Page → ℕ  -- the number of the record that changed the page last
-  pub change : (n : ℕ) → Rec → (p : ℕ) → Page → Option Page  -- what the record numbered n makes of page p, perhaps the same; none: refused
-  pub apply : (n : ℕ) → Rec → Pages → Option Pages  -- what it makes of all pages
-  pub repeat : (n : ℕ) → Rec → Pages → Option Pages  -- the same, but that a page whose stamp is not below n stays
-  pub num : Check → ℕ  -- the check record's number; the records after it count on from there
-  pub left : Check → List Rec → ℕ  -- how many records the open unit still lacks; 0: none is open
-  pub next : Check → Pages → List Rec → Option Rec  -- the open unit's next record; none: refused
+  -- the page numbers are those below it
+  pub many : ℕ
+  -- page p
+  pub at : Pages → (p : ℕ) → Page
+  -- `to`, with page p as it is in `from`
+  pub copy : (p : ℕ) → (from to : Pages) → Pages
+  -- the number of the record that changed the page last
+  pub stamp : Page → ℕ
+  -- what the record numbered n makes of page p: the same page where it does not concern it, none where it is refused
+  pub change : (n : ℕ) → Rec → (p : ℕ) → Page → Option Page
+  -- what it makes of all pages, and what it makes of them when it is repeated: a page whose stamp is not below n stays
+  pub apply : (n : ℕ) → Rec → Pages → Option Pages
+  pub repeat : (n : ℕ) → Rec → Pages → Option Pages
+  -- the check record's number; those of the records after it go on from there
+  pub num : Check → ℕ
+  -- how many records the open unit still lacks; 0 where none is open
+  pub left : Check → List Rec → ℕ
+  -- the open unit's next record; none where the step is refused
+  pub next : Check → Pages → List Rec → Option Rec
 
 module _ (F : Format) where
-  open Format F using (Page, Pages, Rec, Check, many, at, copy, stamp, change, apply, repeat, num, left, next)
+  open Format F using (Page, Pages, Rec, Check, stamp, change, apply, repeat, num, left, next)
 
   -- the number of the log's last record
   abbrev pub last : Check → List Rec → ℕ
   last c l = num c + length l
 
-  -- what the record makes of page p when it is repeated
+  -- what the record numbered n makes of page p when it is repeated
   unfoldable pub again : (n : ℕ) → Rec → (p : ℕ) → Page → Option Page
   again n r p pg = cond (leb n (stamp pg)) (some pg) (change n r p pg)
 
@@ -57,15 +67,21 @@ module _ (F : Format) where
 -- ---- what is asked
 
 pub record Meaning (F : Format) : Type 1 where
-  pub Sized : F .Pages → Type 0  -- all pages together have their length
-  pub Form : (p : ℕ) → F .Page → Type 0  -- page form, by the page's number
-  pub Shape : F .Check → List (F .Rec) → Type 0  -- log form
-  pub Fine : F .Pages → Type 0  -- a well-formed tree with exactly the starting records
-  pub Begins : F .Check → F .Pages → List (F .Rec) → F .Rec → Type 0  -- a begin call appends this record
-  pub Checks : F .Check → List (F .Rec) → F .Check → Type 0  -- a checkpoint call writes this check record
+  -- all pages together have their length
+  pub Sized : F .Pages → Type 0
+  -- page form, by the page's number
+  pub Form : (p : ℕ) → F .Page → Type 0
+  -- log form
+  pub Shape : F .Check → List (F .Rec) → Type 0
+  -- a well-formed tree with exactly the starting records
+  pub Fine : F .Pages → Type 0
+  -- a begin call appends this record
+  pub Begins : F .Check → F .Pages → List (F .Rec) → F .Rec → Type 0
+  -- a checkpoint call writes this check record
+  pub Checks : F .Check → List (F .Rec) → F .Check → Type 0
 
 module _ (F : Format) (M : Meaning F) where
-  open Format F using (Page, Pages, Rec, Check, many, at, copy, stamp, change, apply, repeat, num, left, next)
+  open Format F using (Pages, Rec, Check, many, at, copy, stamp, apply, num, left, next)
   open Meaning M using (Sized, Form, Shape, Fine, Begins, Checks)
 
   -- pages of the right length, each in form
@@ -84,39 +100,57 @@ module _ (F : Format) (M : Meaning F) where
   -- from pages o and a log of the check record c alone, begin and step calls lead to pages w and records l
   pub data Uncut (o : Pages) (c : Check) : (w : Pages) (l : List Rec) → Type 0 where
     start : Uncut o c o []
-    begin : {w w′ : Pages} {l : List Rec} {r : Rec} → Uncut o c w l → left c l ≡ 0 → Begins c w l r → apply (last F c l + 1) r w ≡ some w′
+    begin : {w w′ : Pages} {l : List Rec} {r : Rec}
+        → Uncut o c w l → left c l ≡ 0 → Begins c w l r → apply (last F c l + 1) r w ≡ some w′
         → Uncut o c w′ (l ++ (r ∷ []))
-    step : {w w′ : Pages} {l : List Rec} {r : Rec} {k : ℕ} → Uncut o c w l → left c l ≡ suc k → next c w l ≡ some r
-        → apply (last F c l + 1) r w ≡ some w′ → Uncut o c w′ (l ++ (r ∷ []))
+    step : {w w′ : Pages} {l : List Rec} {r : Rec} {k : ℕ}
+        → Uncut o c w l → left c l ≡ suc k → next c w l ≡ some r → apply (last F c l + 1) r w ≡ some w′
+        → Uncut o c w′ (l ++ (r ∷ []))
 
-  -- calls and cuts lead to work pages x (none: lost by a cut), store pages s and a log of the check record c and the records l, the first f
-  -- of which are forced; o are the pages as they were when c was written. A refused call changes nothing, so it is no rule. After a cut only
-  -- recovery can follow; a cut within a call is one before it or after it, within recovery one after it that keeps fewer of its records
+  -- calls and cuts lead to work pages x (none: lost by a cut), store pages s and a log of the check record c and the records l, the
+  -- first f of which are forced; o are the pages as they were when c was written. A refused call changes nothing, so it has no rule.
+  -- After a cut only recovery can follow. A cut within a call is one before or after it; within recovery, one after it that keeps fewer
+  -- of the records that it appended
   pub data Reached : (o : Pages) (x : Option Pages) (s : Pages) (c : Check) (l : List Rec) (f : ℕ) → Type 0 where
-    start : {o : Pages} {c : Check} → Settled o c [] → Reached o (some o) o c [] 0
-    begin : {o w w′ s : Pages} {c : Check} {l : List Rec} {f : ℕ} {r : Rec} → Reached o (some w) s c l f → left c l ≡ 0 → Begins c w l r
-        → apply (last F c l + 1) r w ≡ some w′ → Reached o (some w′) s c (l ++ (r ∷ [])) f
-    step : {o w w′ s : Pages} {c : Check} {l : List Rec} {f k : ℕ} {r : Rec} → Reached o (some w) s c l f → left c l ≡ suc k → next c w l ≡ some r
-        → apply (last F c l + 1) r w ≡ some w′ → Reached o (some w′) s c (l ++ (r ∷ [])) f
-    force : {o w s : Pages} {c : Check} {l : List Rec} {f : ℕ} → Reached o (some w) s c l f → Reached o (some w) s c l (length l)
-    flush : {o w s : Pages} {c : Check} {l : List Rec} {f : ℕ} (p : ℕ) → Reached o (some w) s c l f → p < many → stamp (at w p) ≤ num c + f
+    start : {o : Pages} {c : Check}
+        → Settled o c []
+        → Reached o (some o) o c [] 0
+    begin : {o w w′ s : Pages} {c : Check} {l : List Rec} {f : ℕ} {r : Rec}
+        → Reached o (some w) s c l f → left c l ≡ 0 → Begins c w l r → apply (last F c l + 1) r w ≡ some w′
+        → Reached o (some w′) s c (l ++ (r ∷ [])) f
+    step : {o w w′ s : Pages} {c : Check} {l : List Rec} {f k : ℕ} {r : Rec}
+        → Reached o (some w) s c l f → left c l ≡ suc k → next c w l ≡ some r → apply (last F c l + 1) r w ≡ some w′
+        → Reached o (some w′) s c (l ++ (r ∷ [])) f
+    force : {o w s : Pages} {c : Check} {l : List Rec} {f : ℕ}
+        → Reached o (some w) s c l f
+        → Reached o (some w) s c l (length l)
+    flush : {o w s : Pages} {c : Check} {l : List Rec} {f : ℕ} (p : ℕ)
+        → Reached o (some w) s c l f → p < many → stamp (at w p) ≤ num c + f
         → Reached o (some w) (copy p w s) c l f
-    checkpoint : {o w s : Pages} {c c′ : Check} {l : List Rec} {f : ℕ} → Reached o (some w) s c l f → left c l ≡ 0 → w ≡ s → Checks c l c′
+    checkpoint : {o w s : Pages} {c c′ : Check} {l : List Rec} {f : ℕ}
+        → Reached o (some w) s c l f → left c l ≡ 0 → w ≡ s → Checks c l c′
         → Reached w (some w) s c′ [] 0
-    cut : {o s : Pages} {x : Option Pages} {c : Check} {l : List Rec} {f : ℕ} (m : ℕ) → Reached o x s c l f → f ≤ m → m ≤ length l
+    cut : {o s : Pages} {x : Option Pages} {c : Check} {l : List Rec} {f : ℕ} (m : ℕ)
+        → Reached o x s c l f → f ≤ m → m ≤ length l
         → Reached o none s c (take m l) f
-    recovery : {o w s : Pages} {x : Option Pages} {c : Check} {l l′ : List Rec} {f : ℕ} → Reached o x s c l f → recover F c s l ≡ some (w, l′)
+    recovery : {o w s : Pages} {x : Option Pages} {c : Check} {l l′ : List Rec} {f : ℕ}
+        → Reached o x s c l f → recover F c s l ≡ some (w, l′)
         → Reached o (some w) s c l′ (length l)
 
-  -- recovery over store pages s and a log of c and l gives no refusal, and leaves what an uncut run would have left
+  -- recovery over store pages s and a log of c and l gives none of the refusals 2 to 8, and leaves what an uncut run would have left
   pub record Recovers (o s : Pages) (c : Check) (l : List Rec) : Type 0 where
     pub work : Pages
     pub rest : List Rec
-    pub log-form : Shape c l  -- not 2
-    pub page-form : Formed s  -- not 3
-    pub numbers : (p : ℕ) → p < many → stamp (at s p) ≤ last F c l  -- not 4
-    pub accepted : recover F c s l ≡ some (work, l ++ rest)  -- not 5, 6, 7
-    pub settled : Settled work c (l ++ rest)  -- not 8: the tree is fine; and no unit is left open
-    pub appended : length rest ≡ left c l  -- the count that recovery returns
-    pub uncut : Uncut o c work (l ++ rest)  -- pages and log are those of a run without cuts,
-    pub replayed : run apply (num c + 1) (l ++ rest) o ≡ some work  -- namely of the surviving records over o
+    -- 2, 3, 4
+    pub log-form : Shape c l
+    pub page-form : Formed s
+    pub numbers : (p : ℕ) → p < many → stamp (at s p) ≤ last F c l
+    -- 5, 6, 7
+    pub accepted : recover F c s l ≡ some (work, l ++ rest)
+    -- 8: the tree is fine; and no unit is left open
+    pub settled : Settled work c (l ++ rest)
+    -- the count that recovery returns
+    pub appended : length rest ≡ left c l
+    -- pages and log are those of a run without cuts, namely what the records give over o
+    pub uncut : Uncut o c work (l ++ rest)
+    pub replayed : run apply (num c + 1) (l ++ rest) o ≡ some work

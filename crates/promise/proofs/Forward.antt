@@ -177,7 +177,7 @@ append-is c l x xs w w′ r g f n e =
 
 -- ---- what is left of a unit, on bytes
 
-generic-bind : {A B : Type 0} (o : Option A) (f : A → Option B) (y : B) → Option.bind o f ≡ some y → Bound o f y
+pub generic-bind : {A B : Type 0} (o : Option A) (f : A → Option B) (y : B) → Option.bind o f ≡ some y → Bound o f y
 unfolding Option.bind
 generic-bind none f y e = absurd (none-not y e)
 generic-bind (some a) f y e = record { from = a; was = refl; gives = e }
@@ -190,28 +190,36 @@ record Turn (c : Check) (x : Step) (xs : List Step) (w : List ℕ) (l : List Rec
   applies : apply (stateOf c l .number + 1) added w ≡ some work
   then : Replay.finish store c (length xs) work (l ++ (added ∷ [])) ≡ some y
 
+next-at : (s : State) (w : List ℕ) (xs ys : List Step) (r : Rec) → xs ≡ ys → nextOf xs s w ≡ some r → nextOf ys s w ≡ some r
+next-at s w xs ys r e h = subst (λ (ts : List Step). nextOf ts s w ≡ some r) e h
+
+apply-at : (n m : ℕ) (r : Rec) (w w′ : List ℕ) → n ≡ m → apply (n + 1) r w ≡ some w′ → apply (m + 1) r w ≡ some w′
+apply-at n m r w w′ e h = subst (λ (k : ℕ). apply (k + 1) r w ≡ some w′) e h
+
 turn : (c : Check) (x : Step) (xs : List Step) (w : List ℕ) (l : List Rec) (y : List ℕ × List Rec) → todoOf (stateOf c l .opened) ≡ x ∷ xs
     → Replay.finish store c (suc (length xs)) w l ≡ some y → Turn c x xs w l y
 unfolding Replay.finish
 turn c x xs w l y t e =
     let a = generic-bind (nextOf (todoOf (stateOf c l .opened)) (stateOf c l) w) _ y e in
     let b = generic-bind (apply (c .number + length l + 1) (a .from) w) _ y (a .gives) in
-    let n : nextOf (x ∷ xs) (stateOf c l) w ≡ some (a .from) = rw t at (a .was) in
+    let n : nextOf (x ∷ xs) (stateOf c l) w ≡ some (a .from) = next-at (stateOf c l) w (todoOf (stateOf c l .opened)) (x ∷ xs) (a .from) t (a .was) in
     record {
       added = a .from;
       next = next-facts x xs (stateOf c l) w (a .from) n;
       work = b .from;
-      applies = rw (number-atEnd (logOf c l)) (b .was);
+      applies = apply-at (c .number + length l) (stateOf c l .number) (a .from) w (b .from) (sym (number-atEnd (logOf c l))) (b .was);
       then = b .gives;
     }
 
 pub finish-is : (c : Check) (todo : List Step) (w : List ℕ) (l : List Rec) (w′ : List ℕ) (l′ : List Rec) → Good (logOf c l) → Bytes w
     → todoOf (stateOf c l .opened) ≡ todo → Replay.finish store c (length todo) w l ≡ some (w′, l′)
     → Calls.finish todo (stateOf c l) w (image c l) ≡ went (stateOf c l′) w′ (image c l′)
-unfolding Calls.finish
+unfolding Calls.finish andThen
 finish-is c [] w l w′ l′ g b t e =
-    let q : (w, l) ≡ (w′, l′) = Option·some-injective (w, l) (w′, l′) (unfold Replay.finish in e) in
-    subst (λ (y : List ℕ × List Rec). went (stateOf c l) w (image c l) ≡ went (stateOf c (y .1)) (y .0) (image c (y .1))) q refl
+    let y : List ℕ × List Rec = (w, l) in
+    let y′ : List ℕ × List Rec = (w′, l′) in
+    let q : y ≡ y′ = Option·some-injective y y′ (unfold Replay.finish in e) in
+    subst (λ (z : List ℕ × List Rec). went (stateOf c l) w (image c l) ≡ went (stateOf c (z .1)) (z .0) (image c (z .1))) q refl
 finish-is c (x ∷ xs) w l w′ l′ g b t e =
     let u : Turn c x xs w l (w′, l′) = turn c x xs w l (w′, l′) t e in
     let r : Rec = u .added in
@@ -219,7 +227,7 @@ finish-is c (x ∷ xs) w l w′ l′ g b t e =
     let f : Fits (stateOf c l) r = next-fits (stateOf c l) x xs w r b o (u .next) in
     let k : Standing (stateOf c l .number + 1) r = fits-standing (sound-atEnd (logOf c l) g) (end-keeps (logOf c l) g) f in
     rw (append-is c l x xs w (u .work) r g f (u .next) (u .applies))
-    (unfold andThen in
+    (
     finish-is c xs (u .work) (l ++ (r ∷ [])) w′ l′ (good-grown (logOf c l) r g f) (apply-bytes (stateOf c l .number + 1) r w (u .work) (k .rows) b (u .applies))
     (todo-after c l x xs r g o f) (u .then))
 

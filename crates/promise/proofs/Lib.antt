@@ -5,3 +5,4 @@ pub mod Standing
 pub mod OnPages
 pub mod Image
 pub mod Forward
+pub mod Recovering

@@ -191,7 +191,7 @@ module _ (rs : List (List ℕ)) where
             let x = changed-pages (target r) (stampedOr n r) v w (fv .sized) (λ q t. on-page n r q s t) (again-page n r v s (fv .sized))
             (sym (repeat-at n r v) ∙ e) in
             (x .0, λ p h. again-at n r p (page p v) ∙ x .1 p h);
-        repeats = λ n r v s fv g.
+        repeat-accepted = λ n r v s fv g.
             let x = changes-pages (target r) (stampedOr n r) v (λ q t. on-page n r q s t)
             (λ p h. (g p h .0, sym (again-at n r p (page p v)) ∙ g p h .1)) in
             (x .0, repeat-at n r v ∙ x .1);

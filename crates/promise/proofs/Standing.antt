@@ -10,9 +10,9 @@ use Rattle.field.specs.Bytes.{most4}
 use Rattle.log.specs.Record.{Check, Rec, LB, LO, LI, LM, LE}
 use Rattle.log.specs.Plan.{Step, bringIn}
 use Rattle.log.specs.Log.{Open, State, first, afterAll, taken, Log, atEnd}
-use Rattle.log.proofs.State.{number-atEnd}
-use Rattle.log.proofs.Valid.{Moved, Does, does-out, does-in, does-point, does-close, Follows, begins, goes, Fits, Valid, cons, Good, valid-split}
-use Rattle.log.proofs.Sound.{Sound, Waits, Awaits, waits-open, awaits-moved, sound-atEnd}
+use Rattle.log.proofs.State.{Every, number-atEnd}
+use Rattle.log.proofs.Valid.{Moved, Does, does-out, does-in, does-point, does-close, Follows, begins, goes, Fits, Valid, nil, cons, Good, valid-split}
+use Rattle.log.proofs.Sound.{Sound, Waits, Awaits, waits-open, awaits-moved, sound-first, sound-after, sound-atEnd}
 use Rattle.unit.proofs.Places.{RecKeeps, OpenKeeps, follows-keeps, end-keeps}
 use Rattle.unit.proofs.Changed.{RowsOf}
 use Rattle.promise.specs.Parts.{logOf, stateOf}
@@ -29,7 +29,7 @@ does-rows a e (does-in q) = rw q (awaits-moved a e)
 does-rows a e (does-point h) = tt
 does-rows a e does-close = tt
 
-follows-rows : {u : ℕ} {o : Option Open} {r : Rec} → Waits u o → Follows u o r → RowsOf r
+pub follows-rows : {u : ℕ} {o : Option Open} {r : Rec} → Waits u o → Follows u o r → RowsOf r
 follows-rows w (begins e ok) = tt
 follows-rows w (goes e d) = does-rows (waits-open w) e d
 
@@ -53,3 +53,11 @@ last-standing c l r g =
     let b : Good (logOf c l) = before-good c l r g in
     let t : Standing (stateOf c l .number + 1) r = fits-standing (sound-atEnd (logOf c l) b) (end-keeps (logOf c l) b) (last-fits c l r g) in
     rw (number-atEnd (logOf c l)) at t
+
+-- what the records of a log in form bring in
+pub valid-rows : {s : State} {rs : List Rec} → Sound s → Valid s rs → Every RowsOf rs
+valid-rows h nil = Every.nil
+valid-rows h (cons f v) = Every.cons (follows-rows (h .waits) (f .follows)) (valid-rows (sound-after h f) v)
+
+pub good-rows : (g : Log) → Good g → Every RowsOf (g .recs)
+good-rows g h = valid-rows (sound-first (g .top) (h .top)) (h .valid)

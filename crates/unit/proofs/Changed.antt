@@ -127,7 +127,7 @@ change-bytes n (LM b old new key) pg pg′ rows h e = modify-bytes (eqb new 0) n
 change-bytes n (LE unit) pg pg′ rows h e = let q : pg ≡ pg′ = cc in rw (← q) h
 
 -- and so do all pages
-at-bytes : (t : Option ℕ) (f : List ℕ → Option (List ℕ)) (w w′ : List ℕ) → ((pg pg′ : List ℕ) → Bytes pg → f pg ≡ some pg′ → Bytes pg′) → Bytes w
+pub at-bytes : (t : Option ℕ) (f : List ℕ → Option (List ℕ)) (w w′ : List ℕ) → ((pg pg′ : List ℕ) → Bytes pg → f pg ≡ some pg′ → Bytes pg′) → Bytes w
     → changedAt t f w ≡ some w′ → Bytes w′
 unfolding changedAt
 at-bytes none f w w′ h b e = let q : w ≡ w′ = cc in rw (← q) b

@@ -190,10 +190,10 @@ record Turn (c : Check) (x : Step) (xs : List Step) (w : List ℕ) (l : List Rec
   applies : apply (stateOf c l .number + 1) added w ≡ some work
   then : Replay.finish store c (length xs) work (l ++ (added ∷ [])) ≡ some y
 
-next-at : (s : State) (w : List ℕ) (xs ys : List Step) (r : Rec) → xs ≡ ys → nextOf xs s w ≡ some r → nextOf ys s w ≡ some r
+pub next-at : (s : State) (w : List ℕ) (xs ys : List Step) (r : Rec) → xs ≡ ys → nextOf xs s w ≡ some r → nextOf ys s w ≡ some r
 next-at s w xs ys r e h = subst (λ (ts : List Step). nextOf ts s w ≡ some r) e h
 
-apply-at : (n m : ℕ) (r : Rec) (w w′ : List ℕ) → n ≡ m → apply (n + 1) r w ≡ some w′ → apply (m + 1) r w ≡ some w′
+pub apply-at : (n m : ℕ) (r : Rec) (w w′ : List ℕ) → n ≡ m → apply (n + 1) r w ≡ some w′ → apply (m + 1) r w ≡ some w′
 apply-at n m r w w′ e h = subst (λ (k : ℕ). apply (k + 1) r w ≡ some w′) e h
 
 turn : (c : Check) (x : Step) (xs : List Step) (w : List ℕ) (l : List Rec) (y : List ℕ × List Rec) → todoOf (stateOf c l .opened) ≡ x ∷ xs

@@ -6,3 +6,5 @@ pub mod OnPages
 pub mod Image
 pub mod Forward
 pub mod Recovering
+pub mod Live
+pub mod Called

@@ -1,0 +1,5 @@
+-- The proof that every unit that begin chooses can be carried out and keeps the tree.
+pub mod Model
+pub mod Trail
+pub mod Merge
+pub mod Rename

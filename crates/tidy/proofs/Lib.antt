@@ -3,3 +3,7 @@ pub mod Model
 pub mod Trail
 pub mod Merge
 pub mod Rename
+pub mod Run
+pub mod Place
+pub mod Move
+pub mod Swap

@@ -165,7 +165,8 @@ module _ (root : List Entry) (s : State) (t : Tree root s) (x y : Entry) (p q : 
   unfolding skipped pick
   find-second did before =
       ⊎-elim
-      (λ (e : p ≡ q). rw (eq-eqb p q e, before) second-key)
+      (λ (e : p ≡ q). let k : skipped (eqb p q) did ≡ some (y .key) = rw (eq-eqb p q e) before in
+      ap (λ (o : Option ℕ). lowest o a (m p)) k ∙ second-key)
       (λ (d : p ≢ q). rw (ne-eqb p q d) (first-key root s t x p xs ys x-in))
       (eq? p q)
 

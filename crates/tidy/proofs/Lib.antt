@@ -7,3 +7,5 @@ pub mod Run
 pub mod Place
 pub mod Move
 pub mod Swap
+pub mod Gather
+pub mod Compact

@@ -26,7 +26,7 @@ map-map : (f g : Entry → Entry) (es : List Entry) → map f (map g es) ≡ map
 map-map f g [] = refl
 map-map f g (e ∷ es) = rw (map-map f g es)
 
-map-mid : (f : Entry → Entry) (xs : List Entry) (e : Entry) (ys : List Entry) → map f (xs ++ e ∷ ys) ≡ map f xs ++ f e ∷ map f ys
+pub map-mid : (f : Entry → Entry) (xs : List Entry) (e : Entry) (ys : List Entry) → map f (xs ++ e ∷ ys) ≡ map f xs ++ f e ∷ map f ys
 map-mid f [] e ys = refl
 map-mid f (x ∷ xs) e ys = rw (map-mid f xs e ys)
 

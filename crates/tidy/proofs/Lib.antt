@@ -9,3 +9,4 @@ pub mod Move
 pub mod Swap
 pub mod Gather
 pub mod Compact
+pub mod Entries

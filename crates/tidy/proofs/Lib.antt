@@ -10,3 +10,4 @@ pub mod Swap
 pub mod Gather
 pub mod Compact
 pub mod Entries
+pub mod Pages

@@ -11,3 +11,4 @@ pub mod Gather
 pub mod Compact
 pub mod Entries
 pub mod Pages
+pub mod Step

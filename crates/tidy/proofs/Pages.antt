@@ -1,0 +1,159 @@
+-- The state of 64 pages in form: what stands on each leaf page, the entries of each base page, and what a page replaced changes of them.
+-- Assumes nothing.
+use Prim.Native.Nat.{ℕ, zero, suc, _+_, _*_, _≤_, _<_}
+use native.Mathlib.Omega.{arith}
+use mathlib.Core.Path.{_≡_, refl, sym, ap, _∙_}
+use mathlib.Core.Logic.{_≢_, _⊎_, inl, inr, ⊎-elim}
+use mathlib.Core.Bool.{Bool, true, false, cond}
+use mathlib.Core.List.{List, [], _∷_, _++_, map}
+use borrow.Author.Tests.{le-leb, lt-leb, eq-eqb, ne-eqb}
+use lib.Dec.{eqb, leb}
+use lib.ListN.{length, take, drop, drop-of-length-le}
+use Rattle.field.specs.Test.{pick}
+use Rattle.field.specs.Bytes.{part, Bytes}
+use Rattle.field.proofs.Test.{both-1, both-2, pick-or}
+use Rattle.field.proofs.Part.{split}
+use Rattle.page.specs.Page.{Kind, count, root, base, leaf, empty, rows, rowsOf, entries, records, shaped, pointing, isRoot, isBase, isLeaf, isEmpty, formed}
+use Rattle.page.specs.Pages.{page, putPage, pages, allFormed}
+use Rattle.page.proofs.Made.{Shaped, shaped-facts, Fill, fit-leaf, fit-base, fit-root}
+use Rattle.page.proofs.Kept.{fill-of}
+use Rattle.page.proofs.Pages.{bytes-putPage, length-putPage, page-putPage-same, page-putPage-other, formed-page, formed-putPage}
+use Rattle.tidy.proofs.Model.{Entry, upd, State, state}
+use Rattle.tidy.proofs.Trail.{eq?}
+use Rattle.tidy.proofs.Entries.{ent, ents}
+
+-- ---- the kinds of page in form
+
+-- the root
+pub root-form : (pg : List ℕ) → formed 0 pg ≡ true → isRoot pg ≡ true
+unfolding formed pick
+root-form pg e = rw (eq-eqb 0 0 refl) at e
+
+-- a base page, a leaf page: empty or what it should be
+pub base-form : (p : ℕ) (pg : List ℕ) → 1 ≤ p → p ≤ 7 → formed p pg ≡ true → (isEmpty pg ≡ true) ⊎ (isBase pg ≡ true)
+unfolding formed
+base-form p pg h k e = by-tests (eqb p 0) (ne-eqb p 0 (λ z. omega arith)) (leb p 7) (le-leb p 7 k) e
+  where
+    by-tests : (t : Bool) → t ≡ false → (u : Bool) → u ≡ true → pick t (isRoot pg) (pick (isEmpty pg) true (pick u (isBase pg) (isLeaf pg))) ≡ true
+        → (isEmpty pg ≡ true) ⊎ (isBase pg ≡ true)
+    by-tests t a u b f = pick-or (isEmpty pg) (isBase pg) (unfold pick in (rw (a, b) at f))
+
+pub leaf-form : (p : ℕ) (pg : List ℕ) → 8 ≤ p → formed p pg ≡ true → (isEmpty pg ≡ true) ⊎ (isLeaf pg ≡ true)
+unfolding formed
+leaf-form p pg h e = by-tests (eqb p 0) (ne-eqb p 0 (λ z. omega arith)) (leb p 7) (lt-leb p 7 h) e
+  where
+    by-tests : (t : Bool) → t ≡ false → (u : Bool) → u ≡ false → pick t (isRoot pg) (pick (isEmpty pg) true (pick u (isBase pg) (isLeaf pg))) ≡ true
+        → (isEmpty pg ≡ true) ⊎ (isLeaf pg ≡ true)
+    by-tests t a u b f = pick-or (isEmpty pg) (isLeaf pg) (unfold pick in (rw (a, b) at f))
+
+-- an empty page has no rows
+pub rows-empty : (sz : ℕ) (pg : List ℕ) → isEmpty pg ≡ true → rows sz pg ≡ []
+unfolding isEmpty rows rowsOf
+rows-empty sz pg e = let z : count pg ≡ 0 = omega (arith, shaped-facts empty pg e .room) in rw z
+
+-- a leaf has rows
+pub leaf-rows : (pg : List ℕ) → isLeaf pg ≡ true → Fill leaf (records pg)
+unfolding isLeaf
+leaf-rows pg e = fill-of leaf pg fit-leaf e
+
+pub base-rows : (pg : List ℕ) → isBase pg ≡ true → Fill base (entries pg)
+unfolding isBase
+base-rows pg e = fill-of base pg fit-base (both-1 _ _ e)
+
+pub root-rows : (pg : List ℕ) → isRoot pg ≡ true → Fill root (entries pg)
+unfolding isRoot
+root-rows pg e = fill-of root pg fit-root (both-1 _ _ e)
+
+pub root-pointing : (pg : List ℕ) → isRoot pg ≡ true → pointing 1 7 (entries pg) ≡ true
+unfolding isRoot
+root-pointing pg e = both-2 _ _ e
+
+-- ---- 64 pages of bytes in form
+
+pub record Sound (w : List ℕ) : Type 0 where
+  pub whole : length w ≡ 16384
+  pub bytes : Bytes w
+  pub form : allFormed 0 (pages w) ≡ true
+
+pub sound-page : (p : ℕ) (w : List ℕ) → Sound w → p < 64 → formed p (page p w) ≡ true
+sound-page p w h k = formed-page p w (h .form) k
+
+-- no page stands behind the 64
+pub page-past : (p : ℕ) (w : List ℕ) → length w ≡ 16384 → 64 ≤ p → page p w ≡ []
+unfolding page part
+page-past p w e h = let k : length w ≤ 256 * p = omega arith in rw (drop-of-length-le w {i = 256 * p} k)
+
+-- ---- what stands on each page
+
+abbrev pub leafOf : List ℕ → ℕ → List (List ℕ)
+leafOf w p = cond (leb 8 p) (records (page p w)) []
+
+abbrev pub baseOf : List ℕ → ℕ → List Entry
+baseOf w p = cond (leb 1 p) (cond (leb p 7) (ents (entries (page p w))) []) []
+
+abbrev pub rootOf : List ℕ → List Entry
+rootOf w = ents (entries (page 0 w))
+
+pub leaf-at : (w : List ℕ) (p : ℕ) → 8 ≤ p → leafOf w p ≡ records (page p w)
+leaf-at w p h = rw (le-leb 8 p h)
+
+pub leaf-not : (w : List ℕ) (p : ℕ) → p < 8 → leafOf w p ≡ []
+leaf-not w p h = rw (lt-leb 8 p h)
+
+pub base-at : (w : List ℕ) (p : ℕ) → 1 ≤ p → p ≤ 7 → baseOf w p ≡ ents (entries (page p w))
+base-at w p h k = rw (le-leb 1 p h, le-leb p 7 k)
+
+pub base-not : (w : List ℕ) (p : ℕ) → (p ≡ 0) ⊎ (8 ≤ p) → baseOf w p ≡ []
+base-not w p s = ⊎-elim (λ (e : p ≡ 0). rw (lt-leb 1 p (omega arith))) (λ (h : 8 ≤ p). rw (le-leb 1 p (omega arith), lt-leb p 7 h)) s
+
+-- ---- a page replaced
+
+module _ (p : ℕ) (pg w : List ℕ) (sound : Sound w) (small : p < 64) (long : length pg ≡ 256) where
+  pub sound-put : Bytes pg → formed p pg ≡ true → Sound (putPage p pg w)
+  sound-put b f =
+      record {
+        whole = length-putPage p w (sound .whole) small pg long;
+        bytes = bytes-putPage p pg w b (sound .bytes);
+        form = formed-putPage p pg w (sound .whole) small long f (sound .form);
+      }
+
+  pub page-same : page p (putPage p pg w) ≡ pg
+  page-same = page-putPage-same p w (sound .whole) small pg long
+
+  pub page-other : (q : ℕ) → q ≢ p → page q (putPage p pg w) ≡ page q w
+  page-other q d =
+      split q 64
+      (λ h. page-putPage-other p w (sound .whole) small pg long q h d)
+      (λ h. page-past q (putPage p pg w) (length-putPage p w (sound .whole) small pg long) h ∙ sym (page-past q w (sound .whole) h))
+
+  -- a leaf page
+  pub put-leaf : 8 ≤ p → (q : ℕ) → upd (leafOf w) p (records pg) q ≡ leafOf (putPage p pg w) q
+  put-leaf h q =
+      ⊎-elim
+      (λ (e : q ≡ p). rw (eq-eqb q p e, e, le-leb 8 p h, page-same))
+      (λ (d : q ≢ p). rw (ne-eqb q p d, page-other q d))
+      (eq? q p)
+
+  pub put-leaf-base : 8 ≤ p → (q : ℕ) → baseOf w q ≡ baseOf (putPage p pg w) q
+  put-leaf-base h q =
+      split q 8
+      (λ k. rw (page-other q (λ e. omega arith)))
+      (λ k. base-not w q (inr k) ∙ sym (base-not (putPage p pg w) q (inr k)))
+
+  -- a base page
+  pub put-base : 1 ≤ p → p ≤ 7 → (q : ℕ) → upd (baseOf w) p (ents (entries pg)) q ≡ baseOf (putPage p pg w) q
+  put-base h k q =
+      ⊎-elim
+      (λ (e : q ≡ p). rw (eq-eqb q p e, e, le-leb 1 p h, le-leb p 7 k, page-same))
+      (λ (d : q ≢ p). rw (ne-eqb q p d, page-other q d))
+      (eq? q p)
+
+  pub put-base-leaf : p ≤ 7 → (q : ℕ) → leafOf w q ≡ leafOf (putPage p pg w) q
+  put-base-leaf h q =
+      split q 8
+      (λ k. leaf-not w q k ∙ sym (leaf-not (putPage p pg w) q k))
+      (λ k. rw (page-other q (λ e. omega arith)))
+
+  -- the root stays
+  pub put-root : 1 ≤ p → page 0 (putPage p pg w) ≡ page 0 w
+  put-root h = page-other 0 (λ e. omega arith)

@@ -7,4 +7,5 @@ pub mod Written
 pub mod Made
 pub mod Kept
 pub mod Changes
+pub mod Images
 pub mod Pages

@@ -48,6 +48,28 @@ body-of sz pg long z =
     let q : 240 - length l ≡ 240 - n = rw (length-take n (drop 16 pg), length-drop 16 pg, long) (omega arith) in
     sym (take-append-drop n (drop 16 pg)) ∙ rw (drop-drop n 16 pg, z, joined-rowsOf sz (count pg) (drop 16 pg), q)
 
+-- ---- a run written in the body, and one read from it
+
+module _ (c v n : ℕ) where
+  top : List ℕ
+  top = 112 ∷ c ∷ (bytes2 v ++ bytes4 n)
+
+  pub topped-put : (o : ℕ) (sp bs l : List ℕ) → length sp ≡ 8 → put (16 + o) bs (topped c v n (sp ++ l)) ≡ topped c v n (sp ++ put o bs l)
+  unfolding topped bytes2 bytes4 top
+  topped-put o sp bs l eight =
+      let e : 16 + o ≡ 8 + (8 + o) = omega arith in
+      rw e (put-past top bs (sp ++ l) 8 (8 + o) refl ∙ ap (λ (x : List ℕ). top ++ x) (put-past sp bs l 8 o eight))
+
+  pub topped-part : (o m : ℕ) (sp l : List ℕ) → length sp ≡ 8 → part (16 + o) m (topped c v n (sp ++ l)) ≡ part o m l
+  unfolding topped bytes2 bytes4 top
+  topped-part o m sp l eight =
+      let e : 16 + o ≡ 8 + (8 + o) = omega arith in
+      rw e (part-past top (sp ++ l) 8 (8 + o) m refl ∙ part-past sp l 8 o m eight)
+
+  pub topped-count : (u : ℕ) (l : List ℕ) → put 2 (bytes2 u) (topped c v n l) ≡ topped c u n l
+  unfolding put topped bytes2 bytes4
+  topped-count u l = refl
+
 -- ---- the header
 
 put-top : (c v n : ℕ) (pg : List ℕ) → take 1 pg ≡ 112 ∷ [] → put 1 (((c ∷ []) ++ bytes2 v) ++ bytes4 n) pg ≡ topped c v n (drop 8 pg)
@@ -66,25 +88,18 @@ module _ (c v n : ℕ) (pg : List ℕ) (long : length pg ≡ 256) (mark : getD p
       let t : take 1 pg ≡ 112 ∷ [] = take-suc pg 0 0 (omega arith) ∙ ap (λ (x : ℕ). x ∷ []) mark in
       rw e (put-bytes4 c v n pg long ∙ put-top c v n pg t ∙ ap (topped c v n) (drop-cut 8 8 pg))
 
+  eight : length (spare pg) ≡ 8
+  unfolding spare
+  eight = length-part 8 8 pg (omega arith)
+
   -- and a run written in the body
   pub written : (o : ℕ) (bs : List ℕ) → put (16 + o) bs (put 4 (bytes4 n) (put 2 (bytes2 v) (put 1 (c ∷ []) pg)))
       ≡ topped c v n (spare pg ++ put o bs (drop 16 pg))
-  unfolding topped bytes2 bytes4
-  written o bs =
-      let e : 16 + o ≡ 8 + (8 + o) = omega arith in
-      let eight : length (spare pg) ≡ 8 = unfold spare in length-part 8 8 pg (omega arith) in
-      let top : List ℕ = 112 ∷ c ∷ (bytes2 v ++ bytes4 n) in
-      rw (headed, e)
-      (put-past top bs (spare pg ++ drop 16 pg) 8 (8 + o) refl ∙ ap (λ (x : List ℕ). top ++ x) (put-past (spare pg) bs (drop 16 pg) 8 o eight))
+  written o bs = rw headed (topped-put c v n o (spare pg) bs (drop 16 pg) eight)
 
   -- and a run read from the body
   pub read : (o m : ℕ) → part (16 + o) m (put 4 (bytes4 n) (put 2 (bytes2 v) (put 1 (c ∷ []) pg))) ≡ part o m (drop 16 pg)
-  unfolding topped bytes2 bytes4
-  read o m =
-      let e : 16 + o ≡ 8 + (8 + o) = omega arith in
-      let eight : length (spare pg) ≡ 8 = unfold spare in length-part 8 8 pg (omega arith) in
-      let top : List ℕ = 112 ∷ c ∷ (bytes2 v ++ bytes4 n) in
-      rw (headed, e) (part-past top (spare pg ++ drop 16 pg) 8 (8 + o) m refl ∙ part-past (spare pg) (drop 16 pg) 8 o m eight)
+  read o m = rw headed (topped-part c v n o m (spare pg) (drop 16 pg) eight)
 
 -- ---- the body
 

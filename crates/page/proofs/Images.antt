@@ -1,11 +1,11 @@
 -- Pages by value: rows more in an image, and the bytes of an entry. Assumes nothing.
-use Prim.Native.Nat.{ℕ, _+_, _-_, _*_, _≤_, _<_}
+use Prim.Native.Nat.{ℕ, _+_, _*_, _≤_, _<_}
 use native.Mathlib.Omega.{arith}
 use mathlib.Core.Path.{_≡_, refl, sym, ap, ap₂, _∙_}
 use mathlib.Core.List.{List, [], _∷_, _++_}
-use lib.ListN.{length, take, drop, getD, length-append, length-drop}
+use lib.ListN.{length, take, drop, length-append, length-drop}
 use lib.Seq.{take-length}
-use Rattle.field.specs.Bytes.{part, put, zeroes, bytes2, bytes4}
+use Rattle.field.specs.Bytes.{put, bytes2, bytes4}
 use Rattle.field.proofs.Part.{length-part}
 use Rattle.page.specs.Page.{rowsOf, joined, entry, letter, count, number, spare, rows, made}
 use Rattle.page.proofs.Rows.{Each, Long, length-rowsOf, length-rows, joined-rowsOf, length-joined, long-rowsOf}
@@ -27,7 +27,8 @@ long-body : (sz : ℕ) (image : List ℕ) → length image ≡ 256 → sz * coun
 long-body sz image whole room = rw (length-drop 16 image, whole) (omega arith)
 
 -- k rows written behind those of an image, and counted
-pub more-rows : (sz k : ℕ) (image rs : List ℕ) → length image ≡ 256 → image ≡ made (letter image) (number image) (spare image) (rows sz image)
+pub more-rows : (sz k : ℕ) (image rs : List ℕ) → length image ≡ 256
+    → image ≡ made (letter image) (number image) (spare image) (rows sz image)
     → length rs ≡ sz * k → sz * count image ≤ 240
     → put (16 + sz * count image) rs (put 2 (bytes2 (count image + k)) image)
     ≡ made (letter image) (number image) (spare image) (rows sz image ++ rowsOf sz k rs)
@@ -42,7 +43,8 @@ more-rows sz k image rs whole e long room =
     let each : Each (Long sz) es = unfold rows in long-rowsOf sz (count image) (drop 16 image) (long-body sz image whole room) in
     let lj : length (joined es) ≡ sz * count image = length-joined sz es each ∙ ap (λ (x : ℕ). sz * x) le in
     let jk : joined (rowsOf sz k rs) ≡ rs = joined-rowsOf sz k rs ∙ ap (λ (x : ℕ). take x rs) (sym long) ∙ take-length rs in
-    let lk : v ≡ length (es ++ rowsOf sz k rs) = sym (length-append es (rowsOf sz k rs) ∙ ap₂ (λ (x y : ℕ). x + y) le (length-rowsOf sz k rs)) in
+    let lk : v ≡ length (es ++ rowsOf sz k rs) =
+    sym (length-append es (rowsOf sz k rs) ∙ ap₂ (λ (x y : ℕ). x + y) le (length-rowsOf sz k rs)) in
     let t : image ≡ topped c (length es) n (sp ++ body es) = e ∙ sym (made-topped c n sp es) in
     ap (λ (x : List ℕ). put (16 + sz * count image) rs (put 2 (bytes2 v) x)) t
     ∙ ap (put (16 + sz * count image) rs) (topped-count c (length es) n v (sp ++ body es))

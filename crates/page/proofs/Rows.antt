@@ -1,21 +1,15 @@
 -- Laws of rows over every row size: taking bytes apart into rows and joining them, one row by its place, and the marks, the order and
 -- the pointers of rows that stand one after the other. Assumes nothing.
-use Prim.Native.Nat.{ℕ, zero, suc, _+_, _-_, _*_, _≤_, _<_}
-use native.Mathlib.Nat.{add-assoc, add-comm, add-zero, zero-add, suc-add, mul-zero, mul-suc, not-suc-le-zero}
-use native.Mathlib.Numerals.{add-one, sub-one}
+use Prim.Native.Nat.{ℕ, zero, suc, _+_, _*_, _≤_, _<_}
+use native.Mathlib.Nat.{add-comm, zero-add, suc-add, mul-zero, mul-suc, not-suc-le-zero}
 use native.Mathlib.Omega.{arith}
-use mathlib.Core.Path.{_≡_, refl, sym, ap, ap₂, _∙_}
-use mathlib.Core.Bool.{Bool, true, false}
+use mathlib.Core.Path.{_≡_, refl, sym, ap, _∙_}
 use mathlib.Core.List.{List, [], _∷_, _++_, append-assoc}
-use lib.ListN.{length, take, drop, getD, length-append, length-take, length-drop}
+use lib.ListN.{length, take, drop, getD, length-append, length-drop}
 use lib.Seq.{take-add, drop-drop, length-take-le, take-at, drop-at, take-append-le, drop-append-le}
-use lib.Dec.{eqb, leb}
-use borrow.Author.Tests.{eqb-true, leb-true, eq-eqb, le-leb}
-use Rattle.field.specs.Test.{both}
-use Rattle.field.specs.Bytes.{part, put, Bytes, le2, le4, bytes2}
-use Rattle.field.proofs.Test.{both-1, both-2, both-intro, both-assoc}
+use Rattle.field.specs.Bytes.{part, Bytes, le2, le4}
 use Rattle.field.proofs.Part.{part-drop}
-use Rattle.field.proofs.Number.{le2-part, le4-part, length-bytes2}
+use Rattle.field.proofs.Number.{le2-part, le4-part}
 use Rattle.field.proofs.Byte.{bytes-nil, bytes-append, bytes-take, bytes-drop}
 use Rattle.page.specs.Page.{rowsOf, joined, keyOf, toPage, count, rows}
 
@@ -69,7 +63,8 @@ joined-append (r ∷ rs) b = ap (λ (x : List ℕ). r ++ x) (joined-append rs b)
 pub length-joined : (sz : ℕ) (rs : List (List ℕ)) → Each (Long sz) rs → length (joined rs) ≡ sz * length rs
 unfolding joined
 length-joined sz [] nil = sym (mul-zero sz)
-length-joined sz (r ∷ rs) (cons h p) = rw (length-append r (joined rs), length-joined sz rs p, h, mul-suc sz (length rs)) (add-comm sz (sz * length rs))
+length-joined sz (r ∷ rs) (cons h p) =
+    rw (length-append r (joined rs), length-joined sz rs p, h, mul-suc sz (length rs)) (add-comm sz (sz * length rs))
 
 -- rows that were joined are found again, whatever follows them
 pub rowsOf-joined : (sz : ℕ) (rs : List (List ℕ)) (l : List ℕ) → Each (Long sz) rs → rowsOf sz (length rs) (joined rs ++ l) ≡ rs

@@ -11,7 +11,7 @@ use Rattle.field.specs.Bytes.{part, put, zeroes, Bytes, le2, le4, bytes2, bytes
 use Rattle.field.proofs.Part.{length-part, length-put, drop-cut, part-past, part-front, put-next, put-past, put-front, put-in}
 use Rattle.field.proofs.Number.{length-bytes2, length-bytes4, bytes2-le2, bytes4-le4}
 use Rattle.field.proofs.Zero.{length-zeroes, drop-zeroes, zeroes-append}
-use Rattle.page.specs.Page.{rowsOf, joined, letter, count, number, spare, rows, made}
+use Rattle.page.specs.Page.{joined, letter, count, number, spare, rows, made}
 use Rattle.page.proofs.Rows.{Each, nil, cons, Long, each-at, joined-rowsOf, joined-append, length-joined, rowsOf-joined, getD-rowsOf}
 
 -- a page from its letter, count and number on
@@ -29,7 +29,8 @@ made-topped c n sp rs = refl
 -- ---- a page taken apart
 
 -- a page of bytes is its header, spare bytes and body
-pub topped-is : (pg : List ℕ) → length pg ≡ 256 → getD pg 0 0 ≡ 112 → Bytes pg → pg ≡ topped (letter pg) (count pg) (number pg) (spare pg ++ drop 16 pg)
+pub topped-is : (pg : List ℕ) → length pg ≡ 256 → getD pg 0 0 ≡ 112 → Bytes pg
+    → pg ≡ topped (letter pg) (count pg) (number pg) (spare pg ++ drop 16 pg)
 unfolding topped letter count number spare
 topped-is pg long p b =
     let t : drop 2 pg ≡ bytes2 (le2 pg 2) ++ (bytes4 (le4 pg 4) ++ (part 8 8 pg ++ drop 16 pg)) =
@@ -40,7 +41,8 @@ topped-is pg long p b =
     ∙ ap₂ (λ (x : ℕ) (y : List ℕ). x ∷ y) p (drop-cons pg 1 0 (omega arith) ∙ ap (λ (x : List ℕ). getD pg 1 0 ∷ x) t)
 
 -- a body with zeros behind its rows of sz bytes is made of them
-pub body-of : (sz : ℕ) (pg : List ℕ) → length pg ≡ 256 → drop (16 + sz * count pg) pg ≡ zeroes (240 - sz * count pg) → drop 16 pg ≡ body (rows sz pg)
+pub body-of : (sz : ℕ) (pg : List ℕ) → length pg ≡ 256 → drop (16 + sz * count pg) pg ≡ zeroes (240 - sz * count pg)
+    → drop 16 pg ≡ body (rows sz pg)
 unfolding body rows
 body-of sz pg long z =
     let n : ℕ = sz * count pg in
@@ -76,7 +78,8 @@ put-top : (c v n : ℕ) (pg : List ℕ) → take 1 pg ≡ 112 ∷ [] → put 1 (
 unfolding put topped bytes2 bytes4
 put-top c v n pg t = rw t
 
-put-bytes4 : (c v n : ℕ) (pg : List ℕ) → length pg ≡ 256 → put 4 (bytes4 n) (put 1 ((c ∷ []) ++ bytes2 v) pg) ≡ put 1 (((c ∷ []) ++ bytes2 v) ++ bytes4 n) pg
+put-bytes4 : (c v n : ℕ) (pg : List ℕ) → length pg ≡ 256
+    → put 4 (bytes4 n) (put 1 ((c ∷ []) ++ bytes2 v) pg) ≡ put 1 (((c ∷ []) ++ bytes2 v) ++ bytes4 n) pg
 unfolding bytes2
 put-bytes4 c v n pg long = put-next 1 ((c ∷ []) ++ bytes2 v) (bytes4 n) pg (omega (arith, length-bytes4 n))
 
@@ -84,7 +87,8 @@ module _ (c v n : ℕ) (pg : List ℕ) (long : length pg ≡ 256) (mark : getD p
   pub headed : put 4 (bytes4 n) (put 2 (bytes2 v) (put 1 (c ∷ []) pg)) ≡ topped c v n (spare pg ++ drop 16 pg)
   unfolding spare
   headed =
-      let e : put 2 (bytes2 v) (put 1 (c ∷ []) pg) ≡ put 1 ((c ∷ []) ++ bytes2 v) pg = put-next 1 (c ∷ []) (bytes2 v) pg (omega (arith, length-bytes2 v)) in
+      let e : put 2 (bytes2 v) (put 1 (c ∷ []) pg) ≡ put 1 ((c ∷ []) ++ bytes2 v) pg =
+      put-next 1 (c ∷ []) (bytes2 v) pg (omega (arith, length-bytes2 v)) in
       let t : take 1 pg ≡ 112 ∷ [] = take-suc pg 0 0 (omega arith) ∙ ap (λ (x : ℕ). x ∷ []) mark in
       rw e (put-bytes4 c v n pg long ∙ put-top c v n pg t ∙ ap (topped c v n) (drop-cut 8 8 pg))
 
@@ -144,7 +148,8 @@ each-set zero r (cons k p) h = cons h p
 each-set (suc i) r (cons k p) h = cons k (each-set i r p h)
 
 -- a run written within a row
-pub body-set : (sz i o : ℕ) (bs : List ℕ) (rs : List (List ℕ)) → Each (Long sz) rs → i < length rs → o + length bs ≤ sz → sz * length rs ≤ 240
+pub body-set : (sz i o : ℕ) (bs : List ℕ) (rs : List (List ℕ)) → Each (Long sz) rs → i < length rs → o + length bs ≤ sz
+    → sz * length rs ≤ 240
     → put (sz * i + o) bs (body rs) ≡ body (set rs i (put o bs (getD rs i [])))
 unfolding body
 body-set sz i o bs rs p h k room =
@@ -180,7 +185,8 @@ body-both sz o m z a b la lb q =
     (sym (append-assoc (joined a) (joined b) (zeroes (240 - (o + m)))))
 
 -- the rows behind a row moved over it, and zeros after them
-pub body-cut : (sz o m : ℕ) (r : List ℕ) (a b : List (List ℕ)) → length (joined a) ≡ o → length r ≡ sz → length (joined b) ≡ m → o + sz + m ≤ 240
+pub body-cut : (sz o m : ℕ) (r : List ℕ) (a b : List (List ℕ)) → length (joined a) ≡ o → length r ≡ sz → length (joined b) ≡ m
+    → o + sz + m ≤ 240
     → put o (part (o + sz) m (body (a ++ (r ∷ b))) ++ zeroes sz) (body (a ++ (r ∷ b))) ≡ body (a ++ b)
 body-cut sz o m r a b la lr lb room =
     let ja : List ℕ = joined a in
@@ -192,7 +198,8 @@ body-cut sz o m r a b la lr lb room =
     rw (e, append-assoc r jb (zeroes z), part-past ja (r ++ (jb ++ zeroes z)) o (sz + 0) m la, part-past r (jb ++ zeroes z) sz 0 m lr)
     (part-front jb (zeroes z) m lb) in
     let q : sz + z ≡ 240 - (o + m) = omega arith in
-    let size : length (r ++ jb) ≡ length (jb ++ zeroes sz) = rw (length-append r jb, length-append jb (zeroes sz), length-zeroes sz) (omega arith) in
+    let size : length (r ++ jb) ≡ length (jb ++ zeroes sz) =
+    rw (length-append r jb, length-append jb (zeroes sz), length-zeroes sz) (omega arith) in
     let over : put o (jb ++ zeroes sz) (ja ++ ((r ++ jb) ++ zeroes z)) ≡ ja ++ ((jb ++ zeroes sz) ++ zeroes z) =
     ap (λ (i : ℕ). put i (jb ++ zeroes sz) (ja ++ ((r ++ jb) ++ zeroes z))) (sym (add-zero o))
     ∙ put-past ja (jb ++ zeroes sz) ((r ++ jb) ++ zeroes z) o 0 la

@@ -20,7 +20,9 @@ put2-requires : tie.Need-put2-requires
 put2-requires c κs = search needs
 
 returns : tie.Need-returns
-returns c = let a = c .before .before .before .before .before .before .before in cc (entry-is (a .args .key) (a .args .p .0))
+returns c =
+    let a = c .before .before .before .before .before .before .before in
+    cc (entry-is (a .args .key) (a .args .p .0))
 
 pub entry-of-spec : {M : Type 1} → statement M
 entry-of-spec =

@@ -31,8 +31,10 @@ cast-copy : tie.Need-cast-copy
 cast-copy c = search needs
 
 -- the rows are in the page
-room : (c : tie.After-image4) → c .before .before .before .before .before .before .before .args .sz * c .before .before .before .before .count .result ≡ c .before .before .before .before .before .before .before .args .sz * count (c .before .before .before .before .before .before .before .args .t1)
-room c = ap (λ (x : ℕ). c .before .before .before .before .before .before .before .args .sz * x) (c .before .before .before .before .count .ensures)
+room : (c : tie.After-image4)
+    → c .before .before .before .before .before .before .before .args .sz * c .before .before .before .before .count .result ≡ c .before .before .before .before .before .before .before .args .sz * count (c .before .before .before .before .before .before .before .args .t1)
+room c =
+    ap (λ (x : ℕ). c .before .before .before .before .before .before .before .args .sz * x) (c .before .before .before .before .count .ensures)
 
 mul-copy : tie.Need-mul-copy
 mul-copy c = omega (arith, room c)

@@ -25,7 +25,8 @@ use Rattle.page.proofs.Rows.{each-take, each-drop, each-at, length-rows
 use Rattle.page.proofs.Order.{found-has, pointTo-at, without-at}
 use Rattle.page.proofs.Written.{topped, body, made-topped, body-of, written, read, body-empty, body-append, body-set, body-cut}
 use Rattle.page.proofs.Made.{Shaped, shaped-facts, Fill, fit-base}
-use Rattle.page.proofs.Kept.{fill-of, Takes, takes, base-shaped}
+use Rattle.page.proofs.Region.{fill-of, base-shaped}
+use Rattle.page.proofs.Kept.{Takes, takes}
 
 -- a header with the letter c, v rows and the number n, written over a page
 abbrev pub head : (c v n : ℕ) → List ℕ → List ℕ

@@ -1,7 +1,7 @@
 -- The four page changes: what each asks of its page, and that it makes a page in form, stamped, with the rows it should have.
 -- Assumes nothing.
-use Prim.Native.Nat.{ℕ, _+_, _*_, _≤_, _<_}
-use native.Mathlib.Nat.{mul-le-mul-left, le-trans}
+use Prim.Native.Nat.{ℕ, _+_, _≤_, _<_}
+use native.Mathlib.Nat.{le-trans}
 use native.Mathlib.Omega.{arith}
 use mathlib.Core.Path.{_≡_, refl, ap, _∙_}
 use mathlib.Core.Logic.{_⊎_, ⊎-elim}
@@ -15,14 +15,15 @@ use Rattle.field.proofs.Test.{both-1, both-2, both-intro, all-head, all-tail, p
 use Rattle.field.proofs.Same.{same-eq}
 use Rattle.field.proofs.Zero.{length-zeroes}
 use Rattle.field.proofs.Byte.{bytes-drop, bytes-part, bytes-put, bytes-bytes2}
-use Rattle.page.specs.Page.{Kind, base, leaf, empty, rowsOf, joined, ascend, ascendRecords, pointing, count, number, spare, rows, entries, records, made, shaped, isBase, isLeaf, isEmpty}
+use Rattle.page.specs.Page.{Kind, base, leaf, empty, joined, ascend, ascendRecords, pointing, count, number, spare, rows, entries, records, made, shaped, isBase, isLeaf, isEmpty}
 use Rattle.page.specs.Change.{above, emptied, appended, has, pointTo, without, redirected, removed}
-use Rattle.page.proofs.Rows.{Each, nil, Long, each-append, length-rowsOf, long-rowsOf, bytes-rowsOf}
+use Rattle.page.proofs.Rows.{Each, nil, Long, each-append, bytes-rowsOf}
 use Rattle.page.proofs.Order.{ascend-append, Found, has-found, without-at, each-without, ascend-without, pointing-without, length-pointTo, each-pointTo, long-pointed, ascend-pointTo, pointing-pointTo}
 use Rattle.page.proofs.Written.{body, body-of}
+use Rattle.page.proofs.Region.{fill-of, base-shaped, base-pointing}
 use Rattle.page.proofs.Made.{Shaped, shaped-facts, Fit, fit-base, fit-leaf, fit-empty, Fill, shaped-made, rows-made, spare-made, number-made, length-made, bytes-made, room-joined}
 
--- ---- the rows of a page in form
+-- ---- a page of bytes has rows of bytes
 
 pub bytes-rows : (sz : ℕ) (pg : List ℕ) → Bytes pg → Each Bytes (rows sz pg)
 unfolding rows
@@ -31,15 +32,6 @@ bytes-rows sz pg b = bytes-rowsOf sz (count pg) (drop 16 pg) (bytes-drop 16 pg b
 pub bytes-spare : (pg : List ℕ) → Bytes pg → Bytes (spare pg)
 unfolding spare
 bytes-spare pg b = bytes-part 8 8 pg b
-
-pub fill-of : (k : Kind) (pg : List ℕ) → Fit k → shaped k pg ≡ true → Fill k (rows (k .size) pg)
-unfolding rows
-fill-of k pg fit e =
-    let f : Shaped k pg = shaped-facts k pg e in
-    let n : length (rowsOf (k .size) (count pg) (drop 16 pg)) ≡ count pg = length-rowsOf (k .size) (count pg) (drop 16 pg) in
-    let r : k .size * count pg ≤ length (drop 16 pg) =
-    rw (length-drop 16 pg, f .whole) (omega (arith, mul-le-mul-left (k .size) (f .room), fit .roomy)) in
-    record { long = long-rowsOf (k .size) (count pg) (drop 16 pg) r; order = f .order; enough = rw n (f .enough); room = rw n (f .room) }
 
 -- ---- a page that a change made
 
@@ -164,14 +156,6 @@ removed-facts n key old pg pg′ e =
     let w = when-some _ _ _ e in
     let t = all-tail _ _ (w .0) in
     (all-head _ _ (w .0), all-head _ _ t, leb-true 2 (length (entries pg)) (all-head _ _ (all-tail _ _ t)), w .1)
-
-pub base-shaped : (pg : List ℕ) → isBase pg ≡ true → shaped base pg ≡ true
-unfolding isBase
-base-shaped pg e = both-1 _ _ e
-
-pub base-pointing : (pg : List ℕ) → isBase pg ≡ true → pointing 8 63 (entries pg) ≡ true
-unfolding isBase
-base-pointing pg e = both-2 _ _ e
 
 -- one entry fewer
 pub length-without : (key old : ℕ) (es : List (List ℕ)) → ascend 101 110 0 es ≡ true → has key old es ≡ true

@@ -75,6 +75,22 @@ module _ (a b : ℕ) where
   key-less lo zero (suc j) (r ∷ rs) e h k = omega (arith, key-least (keyOf r + 1) j rs (ascend-facts lo r rs e .after) (omega arith))
   key-less lo (suc i) (suc j) (r ∷ rs) e h k = key-less (keyOf r + 1) i j rs (ascend-facts lo r rs e .after) (omega arith) (omega arith)
 
+  -- a row in order bears the mark
+  pub mark-at : (lo i : ℕ) (rs : List (List ℕ)) → ascend a b lo rs ≡ true → i < length rs
+      → (getD (getD rs i []) 0 0 ≡ a) × (getD (getD rs i []) 1 0 ≡ b)
+  mark-at lo i [] e h = absurd (not-suc-le-zero h)
+  mark-at lo zero (r ∷ rs) e h = let f : First a b lo r rs = ascend-facts lo r rs e in (f .one, f .two)
+  mark-at lo (suc i) (r ∷ rs) e h = mark-at (keyOf r + 1) i rs (ascend-facts lo r rs e .after) (omega arith)
+
+-- where an entry points
+pub pointing-at : (from to i : ℕ) (es : List (List ℕ)) → pointing from to es ≡ true → i < length es
+    → (from ≤ toPage (getD es i [])) × (toPage (getD es i []) ≤ to)
+unfolding pointing
+pointing-at from to i [] t h = absurd (not-suc-le-zero h)
+pointing-at from to zero (e ∷ es) t h =
+    (leb-true from (toPage e) (both-1 _ _ t), leb-true (toPage e) to (both-1 _ _ (both-2 _ _ t)))
+pointing-at from to (suc i) (e ∷ es) t h = pointing-at from to i es (both-2 _ _ (both-2 _ _ t)) (omega arith)
+
 -- ---- an entry by its key and page
 
 pub entry-facts : (key p : ℕ) (e : List ℕ) → isEntry key p e ≡ true → (keyOf e ≡ key) × (toPage e ≡ p)

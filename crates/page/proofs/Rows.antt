@@ -8,10 +8,10 @@ use mathlib.Core.List.{List, [], _∷_, _++_, append-assoc}
 use lib.ListN.{length, take, drop, getD, length-append, length-drop}
 use lib.Seq.{take-add, drop-drop, length-take-le, take-at, drop-at, take-append-le, drop-append-le}
 use Rattle.field.specs.Bytes.{part, Bytes, le2, le4}
-use Rattle.field.proofs.Part.{part-drop}
+use Rattle.field.proofs.Part.{part-part, part-drop}
 use Rattle.field.proofs.Number.{le2-part, le4-part}
 use Rattle.field.proofs.Byte.{bytes-nil, bytes-append, bytes-take, bytes-drop}
-use Rattle.page.specs.Page.{rowsOf, joined, keyOf, toPage, count, rows}
+use Rattle.page.specs.Page.{rowsOf, joined, keyOf, toPage, valueOf, count, rows}
 
 -- ---- a property of each row
 
@@ -42,6 +42,10 @@ module _ {P : List ℕ → Type 0} where
   each-at i nil h = absurd (not-suc-le-zero h)
   each-at zero (cons p ps) h = p
   each-at (suc i) (cons p ps) h = each-at i ps (omega arith)
+
+  pub each-all : (rs : List (List ℕ)) → ((i : ℕ) → i < length rs → P (getD rs i [])) → Each P rs
+  each-all [] f = nil
+  each-all (r ∷ rs) f = cons (f 0 (omega arith)) (each-all rs (λ i h. f (suc i) (omega arith)))
 
 -- ---- rows of bytes, bytes of rows
 
@@ -140,3 +144,7 @@ key-at sz i pg h k = sym (ap keyOf (getD-rows sz i pg k) ∙ key-row sz (16 + sz
 
 pub page-at : (i : ℕ) (pg : List ℕ) → i < count pg → le2 pg (16 + 8 * i + 6) ≡ toPage (getD (rows 8 pg) i [])
 page-at i pg k = sym (ap toPage (getD-rows 8 i pg k) ∙ page-row 8 (16 + 8 * i) pg (omega arith))
+
+pub value-at : (i : ℕ) (pg : List ℕ) → i < count pg → 16 + 16 * i + 16 ≤ length pg → valueOf (getD (rows 16 pg) i []) ≡ part (16 + 16 * i + 6) 10 pg
+unfolding valueOf
+value-at i pg h k = ap (part 6 10) (getD-rows 16 i pg h) ∙ part-part 6 10 (16 + 16 * i) 16 pg (omega arith) k

@@ -1,6 +1,6 @@
 -- Laws of a part of a list and of a run written over a list, for every offset and length, once; and of the loops, stores and loans of
 -- a part by which code comes to them. Assumes nothing.
-use Prim.Native.Nat.{ℕ, zero, suc, _+_, _-_, _*_, _≤_, _<_}
+use Prim.Native.Nat.{ℕ, _+_, _-_, _≤_, _<_}
 use native.Mathlib.Nat.{add-assoc, add-zero, add-sub-cancel-left}
 use native.Mathlib.Decide.{decLe}
 use native.Mathlib.Numerals.{add-one}
@@ -207,7 +207,8 @@ put-put o a b l e h =
     (λ j p. getD-put-after o a l j (omega arith) (omega arith) ∙ sym (getD-put-after o b l j (omega arith) p))
 
 -- writes at offsets of the whole, within one part that was written: each is a write of that part
-pub put-in-put : (o i : ℕ) (bs x l : List ℕ) → i + length bs ≤ length x → o + length x ≤ length l → put (o + i) bs (put o x l) ≡ put o (put i bs x) l
+pub put-in-put : (o i : ℕ) (bs x l : List ℕ) → i + length bs ≤ length x → o + length x ≤ length l
+    → put (o + i) bs (put o x l) ≡ put o (put i bs x) l
 put-in-put o i bs x l h k =
     let lx : length (put o x l) ≡ length l = length-put o x l k in
     put-in o (length x) i bs (put o x l) h (omega arith)
@@ -243,14 +244,16 @@ pub copy-more! : (d : List ℕ) (at : ℕ) (rs : List ℕ) (i : ℕ) (s : List �
     → set s (at + i) (getD rs i 0) ≡ paste d at rs (i + 1)
 copy-more! d at rs i s e h k = rw (e, add-one) (paste-suc d at rs i 0 (omega arith) k)
 
-pub copy-all! : (d : List ℕ) (at : ℕ) (rs : List ℕ) (i : ℕ) (s : List ℕ) → s ≡ paste d at rs i → i ≤ length rs → length rs ≤ i → s ≡ put at rs d
+pub copy-all! : (d : List ℕ) (at : ℕ) (rs : List ℕ) (i : ℕ) (s : List ℕ) → s ≡ paste d at rs i → i ≤ length rs → length rs ≤ i
+    → s ≡ put at rs d
 unfolding put
 copy-all! d at rs i s e h k =
     let q : i ≡ length rs = omega arith in
     rw (e, q, take-all (length rs) rs (omega arith)) (append-assoc (take at d) rs (drop (at + length rs) d))
 
 -- the same where the bytes copied are the list's own, from an offset no lower: no byte is read after it was written
-pub shift-more! : (d : List ℕ) (at from n : ℕ) (i : ℕ) (s : List ℕ) → s ≡ paste d at (part from n d) i → at ≤ from → from + n ≤ length d → i < n
+pub shift-more! : (d : List ℕ) (at from n : ℕ) (i : ℕ) (s : List ℕ) → s ≡ paste d at (part from n d) i → at ≤ from → from + n ≤ length d
+    → i < n
     → set s (at + i) (getD s (from + i) 0) ≡ paste d at (part from n d) (i + 1)
 unfolding put
 shift-more! d at from n i s e low h k =

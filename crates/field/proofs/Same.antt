@@ -1,5 +1,5 @@
 -- Laws of comparing two lists, and of a list that begins with another. Assumes nothing.
-use Prim.Native.Nat.{ℕ, _+_, _≤_}
+use Prim.Native.Nat.{ℕ, _≤_}
 use native.Mathlib.Omega.{arith}
 use mathlib.Core.Path.{_≡_, refl, sym, ap, ap₂, _∙_}
 use mathlib.Core.Bool.{Bool, true, false, false≢true}
@@ -8,7 +8,6 @@ use lib.ListN.{length, take, drop, take-append-drop, length-take}
 use lib.Seq.{take-append-seam}
 use lib.Dec.{eqb}
 use borrow.Author.Tests.{eqb-true, eq-eqb}
-use Rattle.field.specs.Test.{both}
 use Rattle.field.specs.Bytes.{same, starts}
 use Rattle.field.proofs.Test.{both-1, both-2, both-intro}
 

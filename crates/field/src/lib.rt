@@ -1,6 +1,6 @@
 // Little-endian numbers in lent bytes, runs of zeros, copying, and the paper's three counters.
 ghost use mathlib.Core.Path.{_≡_};
-ghost use Prim.Native.Nat.{ℕ, _+_, _*_, _≤_, _<_};
+ghost use Prim.Native.Nat.{_+_, _*_, _≤_, _<_};
 ghost use lib.ListN.{length};
 ghost use Rattle.field.specs.Bytes.{part, put, zeroes, allZero, le2, le4, bytes2, bytes4};
 

@@ -2,11 +2,11 @@
 -- Assumes nothing.
 use Prim.Native.Nat.{ℕ, _+_, _-_, _*_, _≤_, _<_}
 use native.Mathlib.Omega.{arith}
-use mathlib.Core.Path.{_≡_, refl, sym, ap, _∙_}
+use mathlib.Core.Path.{_≡_, sym, _∙_}
 use mathlib.Core.Bool.{Bool, true, false, not}
 use mathlib.Core.List.{List, [], _∷_}
 use lib.ListN.{length, take, drop, getD}
-use lib.Dec.{eqb, leb}
+use lib.Dec.{leb}
 use borrow.Author.Tests.{eq-eqb, ne-eqb, le-leb, lt-leb, not-true, not-false}
 use borrow.Rule.Slice.PartAt.{part-to-end}
 use Rattle.field.specs.Test.{both, all, pick}
@@ -79,7 +79,8 @@ module _ (k : Kind) (l : List ℕ) (z : Bool) (e : z ≡ shaped k l) where
       pub point-room : k .most ≤ 30 → 16 + 8 * n ≤ length l
       point-room m = omega (arith, point-whole, shaped-facts k l (sym e ∙ not-false z h) .room)
 
-      pub point-rest! : (from to : ℕ) (x : Bool) → x ≡ pointing from to (rowsOf 8 n (drop 16 l)) → x ≡ both (shaped k l) (pointing from to (rows 8 l))
+      pub point-rest! : (from to : ℕ) (x : Bool) → x ≡ pointing from to (rowsOf 8 n (drop 16 l))
+          → x ≡ both (shaped k l) (pointing from to (rows 8 l))
       unfolding rows
       point-rest! from to x g = sym (both-true _ _ (sym e ∙ not-false z h) ∙ rw (← f) (sym g))
 

@@ -73,45 +73,50 @@ unfolding todoOf
 none-left o e = rw e
 
 -- an open unit has a step to come
-record Some (ts : List Step) : Type 0 where
-  head : Step
-  tail : List Step
-  is : ts ≡ head ∷ tail
+pub record Some (ts : List Step) : Type 0 where
+  pub head : Step
+  pub tail : List Step
+  pub is : ts ≡ head ∷ tail
 
-ending-some : {u : ℕ} {ts : List Step} → Ending u ts → Some ts
+pub ending-some : {u : ℕ} {ts : List Step} → Ending u ts → Some ts
 ending-some {u} Ending.last = record { head = Rattle.log.specs.Plan.close u; tail = []; is = refl }
 ending-some (Ending.more {x = x} {xs = xs} w h) = record { head = x; tail = xs; is = refl }
 
+some-open : (o : Option Open) (k : ℕ) → length (todoOf o) ≡ suc k → (u : Open) × (o ≡ some u)
+unfolding todoOf
+some-open none k e = absurd (omega arith)
+some-open (some o) k e = (o, refl)
+
 -- the page that a step changes is one of the 64, and in form
-formed-target : {rs : List (List ℕ)} (x : Step) (w : List ℕ) → StepKeeps x → Formed store (asked rs) w → formedAt (targetOf x) w ≡ true
+pub formed-target : {rs : List (List ℕ)} (x : Step) (w : List ℕ) → StepKeeps x → Formed store (asked rs) w → formedAt (targetOf x) w ≡ true
 unfolding formedAt targetOf
 formed-target (Rattle.log.specs.Plan.takeOut org dest) w k f = f .form org (omega (arith, k .1))
 formed-target (Rattle.log.specs.Plan.bringIn org dest back) w k f = f .form dest (omega (arith, k .1))
 formed-target (Rattle.log.specs.Plan.point base old new other) w k f = f .form base (omega (arith, k .0 .1))
 formed-target (Rattle.log.specs.Plan.close unit) w k f = refl
 
-keeps-head : (x : Step) (xs ts : List Step) → ts ≡ x ∷ xs → Keeping ts → StepKeeps x
+pub keeps-head : (x : Step) (xs ts : List Step) → ts ≡ x ∷ xs → Keeping ts → StepKeeps x
 keeps-head x xs ts e k = head (subst Keeping e k)
   where
     head : Keeping (x ∷ xs) → StepKeeps x
     head (one-more h r) = h
 
-todo-of : (o : Option Open) (u : Open) (ts : List Step) → o ≡ some u → u .todo ≡ ts → todoOf o ≡ ts
+pub todo-of : (o : Option Open) (u : Open) (ts : List Step) → o ≡ some u → u .todo ≡ ts → todoOf o ≡ ts
 unfolding todoOf
 todo-of o u ts e t = rw e t
 
 -- a step past test 3
-step-with : (ts : List Step) (x : Step) (xs : List Step) (s : State) (w b : List ℕ) (y : Went) → ts ≡ x ∷ xs → formedAt (targetOf x) w ≡ true
+pub step-with : (ts : List Step) (x : Step) (xs : List Step) (s : State) (w b : List ℕ) (y : Went) → ts ≡ x ∷ xs → formedAt (targetOf x) w ≡ true
     → append x xs s w b ≡ y → stepWith ts s w b ≡ y
 unfolding stepWith
 step-with ts x xs s w b y t f e = rw t (need-true (formedAt (targetOf x) w) (stopped 3) (append x xs s w b) f ∙ e)
 
 -- the end of a check record alone
-bare-at : (k : Check) → stateOf k [] .at ≡ 24
+pub bare-at : (k : Check) → stateOf k [] .at ≡ 24
 unfolding sizes
 bare-at k = at-atEnd (logOf k [])
 
-nothing-forced : 24 ≡ 24 + sizes (take 0 [])
+pub nothing-forced : 24 ≡ 24 + sizes (take 0 [])
 unfolding sizes
 nothing-forced = refl
 
@@ -167,50 +172,70 @@ module _ (rs : List (List ℕ)) (U : UnitLaws store (asked rs)) (d : Lent) (v : 
   -- ---- step
 
   -- the log after the record r, as bytes
-  log-grown : (r : Rec) → Good (logOf (v .top) (v .recs ++ (r ∷ [])))
+  pub log-grown : (r : Rec) → Good (logOf (v .top) (v .recs ++ (r ∷ [])))
       → put (stateOf (v .top) (v .recs) .at) (encode (stateOf (v .top) (v .recs) .number + 1) r) (d .log) ≡ image (v .top) (v .recs ++ (r ∷ []))
   log-grown r g =
       ap (put (stateOf (v .top) (v .recs) .at) (encode (stateOf (v .top) (v .recs) .number + 1) r)) (v .log)
       ∙ put-image (v .top) (v .recs) r (stored rs U d v .good) (last-fits (v .top) (v .recs) r g)
 
-  -- an accepted step, whatever made it so
-  stepped-live : (r : Rec) (w′ : List ℕ) → Reached store (asked rs) (v .origin) (some w′) (d .store) (v .top) (v .recs ++ (r ∷ [])) (v .many)
-      → (x : Went) → x ≡ went (stateOf (v .top) (v .recs ++ (r ∷ []))) w′ (image (v .top) (v .recs ++ (r ∷ []))) → Live rs (stepped d x .now)
-  unfolding stepped
-  stepped-live r w′ g x e =
-      rw e
-      (subst₂ (λ (a : ℕ) (b : List ℕ). Live rs (lent a (d .forced) w′ (d .store) b (d .bytes))) (sym (at-grown (v .top) (v .recs) r))
-      (log-grown r (stored-of rs U g .good)) (live-grown rs U d v r w′ g))
-
-  open-live : (o : Open) → stateOf (v .top) (v .recs) .opened ≡ some o
-      → Live rs (stepped d (stepWith (o .todo) (stateOf (v .top) (v .recs)) (d .work) (d .log)) .now)
-  open-live o e =
+  -- the step that the generic half gives is accepted, and is what the call does
+  pub step-is : (k : ℕ) (r : Rec) (w′ : List ℕ) → length (todoOf (stateOf (v .top) (v .recs) .opened)) ≡ suc k
+      → store .next (v .top) (d .work) (v .recs) ≡ some r → apply (v .top .number + length (v .recs) + 1) r (d .work) ≡ some w′
+      → Calls.step d
+      ≡ left 0 [] (lent (stateOf (v .top) (v .recs ++ (r ∷ [])) .at) (d .forced) w′ (d .store) (image (v .top) (v .recs ++ (r ∷ []))) (d .bytes))
+  unfolding Calls.step stepped
+  step-is k r w′ z next applies =
       let g : Good (logOf (v .top) (v .recs)) = stored rs U d v .good in
+      let (o, e) = some-open (stateOf (v .top) (v .recs) .opened) k z in
       let a : Awaits (stateOf (v .top) (v .recs) .unit) o =
       waits-open (subst (Waits (stateOf (v .top) (v .recs) .unit)) e (sound-atEnd (logOf (v .top) (v .recs)) g .waits)) in
       let t : Some (o .todo) = ending-some (a .todo) in
       let x : Step = t .head in
       let xs : List Step = t .tail in
       let todo : todoOf (stateOf (v .top) (v .recs) .opened) ≡ x ∷ xs = todo-of (stateOf (v .top) (v .recs) .opened) o (x ∷ xs) e (t .is) in
-      let (r, w′, next, applies, fewer) = step-accepted store (asked rs) (page-laws rs) U (v .reached) (ap length todo) in
       let n : Next x xs (stateOf (v .top) (v .recs)) (d .work) r =
       next-facts x xs (stateOf (v .top) (v .recs)) (d .work) r
       (next-at (stateOf (v .top) (v .recs)) (d .work) (todoOf (stateOf (v .top) (v .recs) .opened)) (x ∷ xs) r todo next) in
       let h : Reached store (asked rs) (v .origin) (some w′) (d .store) (v .top) (v .recs ++ (r ∷ [])) (v .many) =
-      Reached.step (v .reached) (ap length todo) next applies in
-      let k : StepKeeps x = keeps-head x xs (o .todo) (t .is) (subst OpenKeeps e (end-keeps (logOf (v .top) (v .recs)) g)) in
-      let f : formedAt (targetOf x) (d .work) ≡ true = formed-target x (d .work) k (work-pages rs U d v) in
-      stepped-live r w′ h (stepWith (o .todo) (stateOf (v .top) (v .recs)) (d .work) (d .log))
+      Reached.step (v .reached) z next applies in
+      let k′ : StepKeeps x = keeps-head x xs (o .todo) (t .is) (subst OpenKeeps e (end-keeps (logOf (v .top) (v .recs)) g)) in
+      let f : formedAt (targetOf x) (d .work) ≡ true = formed-target x (d .work) k′ (work-pages rs U d v) in
+      need-true _ (refused 0 1 d) _ (two-sized rs U d v)
+      ∙ given-some _ (logOf (v .top) (v .recs)) (refused 0 2 d) _ (known-live rs U d v)
+      ∙ given-some _ o (refused 0 10 d) _ e
+      ∙ ap (stepped d)
       (step-with (o .todo) x xs (stateOf (v .top) (v .recs)) (d .work) (d .log) _ (t .is) f
       (ap (append x xs (stateOf (v .top) (v .recs)) (d .work)) (v .log)
       ∙ append-is (v .top) (v .recs) x xs (d .work) w′ r g (last-fits (v .top) (v .recs) r (stored-of rs U h .good)) n
       (apply-at (v .top .number + length (v .recs)) (stateOf (v .top) (v .recs) .number) r (d .work) w′ (sym (number-atEnd (logOf (v .top) (v .recs)))) applies)))
 
-  pub step-live : Live rs (Calls.step d .now)
+  -- no unit is open
+  step-none : stateOf (v .top) (v .recs) .opened ≡ none → Calls.step d ≡ refused 0 10 d
   unfolding Calls.step
-  step-live =
-      by-test _ 0 1 _ v (λ sized. rw (given-some _ (logOf (v .top) (v .recs)) (refused 0 2 d) _ (known-live rs U d v))
-      (by-value _ 0 10 _ v (λ o e. open-live o e)))
+  step-none e =
+      need-true _ (refused 0 1 d) _ (two-sized rs U d v)
+      ∙ given-some _ (logOf (v .top) (v .recs)) (refused 0 2 d) _ (known-live rs U d v)
+      ∙ given-none _ (refused 0 10 d) _ e
+
+  step-open : (k : ℕ) → length (todoOf (stateOf (v .top) (v .recs) .opened)) ≡ suc k → Live rs (Calls.step d .now)
+  step-open k z =
+      let (r, w′, next, applies, fewer) = step-accepted store (asked rs) (page-laws rs) U (v .reached) z in
+      let h : Reached store (asked rs) (v .origin) (some w′) (d .store) (v .top) (v .recs ++ (r ∷ [])) (v .many) =
+      Reached.step (v .reached) z next applies in
+      rw (step-is k r w′ z next applies)
+      (subst₂ (λ (a : ℕ) (b : List ℕ). Live rs (lent a (d .forced) w′ (d .store) b (d .bytes))) (sym (at-grown (v .top) (v .recs) r))
+      (log-grown r (stored-of rs U h .good)) (live-grown rs U d v r w′ h))
+
+  pub step-live : Live rs (Calls.step d .now)
+  step-live = by-open (stateOf (v .top) (v .recs) .opened) refl
+    where
+      by-open : (o : Option Open) → stateOf (v .top) (v .recs) .opened ≡ o → Live rs (Calls.step d .now)
+      by-open none e = rw (step-none e) (live-same (refused 0 10 d) (refused-now 0 10 d) v)
+      by-open (some o) e =
+          let a : Awaits (stateOf (v .top) (v .recs) .unit) o =
+          waits-open (subst (Waits (stateOf (v .top) (v .recs) .unit)) e (sound-atEnd (logOf (v .top) (v .recs)) (stored rs U d v .good) .waits)) in
+          let t : Some (o .todo) = ending-some (a .todo) in
+          step-open (length (t .tail)) (ap length (todo-of (stateOf (v .top) (v .recs) .opened) o (t .head ∷ t .tail) e (t .is)))
 
   -- ---- flush, force, checkpoint
 

@@ -20,7 +20,8 @@ use Rattle.page.specs.Page.{keyOf, toPage, entries, records, leaf, isLeaf, shap
 use Rattle.page.specs.Pages.{page}
 use Rattle.page.proofs.Rows.{Each}
 use Rattle.page.proofs.Made.{Fill, fit-leaf}
-use Rattle.page.proofs.Kept.{fill-of, bytes-rows}
+use Rattle.page.proofs.Kept.{bytes-rows}
+use Rattle.page.proofs.Region.{fill-of}
 use Rattle.page.proofs.Pages.{bytes-page}
 use Rattle.log.specs.Record.{Check, Rec, LB, LO, LI, LM, LE, size, encode}
 use Rattle.log.specs.Plan.{Step, takeOut, bringIn, point, close}

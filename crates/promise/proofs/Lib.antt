@@ -8,3 +8,4 @@ pub mod Forward
 pub mod Recovering
 pub mod Live
 pub mod Called
+pub mod Accepted

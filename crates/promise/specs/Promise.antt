@@ -82,9 +82,9 @@ pub data History (rs : List (List ℕ)) : (d : Lent) (forced : ℕ) (on : Bool) 
 
 -- ---- what is promised
 
--- from the pages o and a log of the check record c alone, begins and steps, all accepted and none cut, lead to e
+-- from the pages o, work and store alike, and a log of the check record c alone, begins and steps, all accepted and none cut, lead to e
 pub data Uncut (o : List ℕ) (c : Check) : (e : Lent) → Type 0 where
-  start : Uncut o c (lent 24 24 o [] (newLog c) [])
+  start : Uncut o c (lent 24 24 o o (newLog c) [])
   compact : {e : Lent} (fill : ℕ) → Uncut o c e → beginCompact fill e .reply ≡ 0 → Uncut o c (beginCompact fill e .now)
   order : {e : Lent} → Uncut o c e → beginOrder e .reply ≡ 0 → Uncut o c (beginOrder e .now)
   onward : {e : Lent} → Uncut o c e → step e .reply ≡ 0 → Uncut o c (step e .now)

@@ -64,6 +64,15 @@ module _ (F : Format) (M : Meaning F) (P : PageLaws F M) (U : UnitLaws F M) wher
   pub theorem : {o s : Pages} {x : Option Pages} {c : Check} {l : List Rec} {f : ℕ} → Reached F M o x s c l f → Recovers F M o s c l
   theorem g = kept-recovers F M P U (holds g .kept)
 
+  -- the pages that the history names as those at the check record were settled, and an uncut run from them is a history too
+  pub origin-settled : {o s : Pages} {x : Option Pages} {c : Check} {l : List Rec} {f : ℕ} → Reached F M o x s c l f → Settled F M o c []
+  origin-settled g = holds g .kept .origin
+
+  pub uncut-reached : {o w : Pages} {c : Check} {l : List Rec} → Settled F M o c [] → Uncut F M o c w l → Reached F M o (some w) o c l 0
+  uncut-reached g Uncut.start = Reached.start g
+  uncut-reached g (Uncut.begin u z h e) = Reached.begin (uncut-reached g u) z h e
+  uncut-reached g (Uncut.step u j h e) = Reached.step (uncut-reached g u) j h e
+
   -- a cut within recovery, after it forced the log as found: any number of the records that it appended may be lost
   pub cut-in-recovery : {o w s : Pages} {x : Option Pages} {c : Check} {l l′ : List Rec} {f : ℕ} (m : ℕ) → Reached F M o x s c l f
       → recover F c s l ≡ some (w, l′) → length l ≤ m → m ≤ length l′ → Reached F M o none s c (take m l′) (length l)

@@ -9,7 +9,7 @@ use mathlib.Core.List.{List, [], _∷_, _++_}
 use mathlib.Core.Option.{Option, some, none}
 use lib.ListN.{length, getD}
 use lib.Dec.{eqb, leb}
-use borrow.Author.Tests.{eq-eqb, ne-eqb, lt-leb, le-leb}
+use borrow.Author.Tests.{eq-eqb, ne-eqb}
 use Rattle.field.specs.Test.{pick, bind}
 use Rattle.field.specs.Bytes.{Bytes}
 use Rattle.field.proofs.Test.{pick-true, pick-false, bind-some, Bound}
@@ -18,6 +18,7 @@ use Rattle.page.specs.Change.{emptied, appended, redirected, removed}
 use Rattle.page.specs.Pages.{page, putPage}
 use Rattle.page.proofs.Rows.{Each, Long}
 use Rattle.page.proofs.Kept.{Changed, emptied-kept, appended-kept, redirected-kept, removed-kept, bytes-emptied, bytes-appended, bytes-redirected, bytes-removed}
+use Rattle.page.proofs.Region.{empty-formed, base-formed, leaf-formed}
 use Rattle.page.proofs.Pages.{bytes-page, bytes-putPage}
 use Rattle.log.specs.Record.{Begin, Rec, LB, LO, LI, LM, LE}
 use Rattle.log.proofs.Valid.{Moved}
@@ -31,28 +32,6 @@ RowsOf (LO org dest rs) = Unit {0}
 RowsOf (LI org dest back rs) = Moved rs
 RowsOf (LM base old new key) = Unit {0}
 RowsOf (LE unit) = Unit {0}
-
--- ---- a page of its kind is in form where it stands
-
-pub empty-formed : (p : ℕ) (pg : List ℕ) → 1 ≤ p → isEmpty pg ≡ true → formed p pg ≡ true
-unfolding formed pick
-empty-formed p pg h e = rw (ne-eqb p 0 (λ q. omega arith), e)
-
-pub leaf-formed : (p : ℕ) (pg : List ℕ) → 8 ≤ p → isLeaf pg ≡ true → formed p pg ≡ true
-unfolding formed
-leaf-formed p pg h e = rw (ne-eqb p 0 (λ q. omega arith), lt-leb p 7 (omega arith)) (by-empty (isEmpty pg))
-  where
-    by-empty : (b : Bool) → pick false (Rattle.page.specs.Page.isRoot pg) (pick b true (pick false (isBase pg) (isLeaf pg))) ≡ true
-    by-empty true = unfold pick in refl
-    by-empty false = unfold pick in e
-
-pub base-formed : (p : ℕ) (pg : List ℕ) → 1 ≤ p → p ≤ 7 → isBase pg ≡ true → formed p pg ≡ true
-unfolding formed
-base-formed p pg h k e = rw (ne-eqb p 0 (λ q. omega arith), le-leb p 7 k) (by-empty (isEmpty pg))
-  where
-    by-empty : (b : Bool) → pick false (Rattle.page.specs.Page.isRoot pg) (pick b true (pick true (isBase pg) (isLeaf pg))) ≡ true
-    by-empty true = unfold pick in refl
-    by-empty false = unfold pick in e
 
 -- ---- one record
 

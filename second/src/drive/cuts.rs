@@ -4,7 +4,11 @@
 //!    run a script, a dump after every recovery and now and then in between:
 //!    any calls, cuts at any record and between calls, several in a row, and
 //!    inside a recovery;
-//! 2. tidying: the largest trees compacted until nothing is left, then put in
+//! 2. each cut: of a compact in its place, the largest one into a new place,
+//!    a move, and a swap under one base page and under two, every number of
+//!    records kept, with no page, all pages and all pages of half-way in the
+//!    store; recovery, and a second cut that keeps half of what it appended;
+//! 3. tidying: the largest trees compacted until nothing is left, then put in
 //!    order until nothing is left, the log filled up, every page flushed and
 //!    a checkpoint made where it is full, with cuts now and then.
 
@@ -15,7 +19,7 @@ use crate::chance::Chance;
 use crate::page::{LEAVES, MOST_ROWS};
 use crate::reply;
 use crate::runs::{self, shape_with};
-use crate::state::{Answer, Call, State};
+use crate::state::{shape, Answer, Call, ShortBase, State};
 use std::cell::RefCell;
 
 /// One call in so many is followed by a dump.
@@ -40,6 +44,90 @@ pub fn run(seed: u64, _reading: bool) -> Made {
         bytes: script.into_inner().into_bytes(),
         cuts,
     }
+}
+
+/// A script for each unit, with every cut of it.
+pub fn scripts() -> Vec<Made> {
+    let mut all = Vec::new();
+    for (seed, (begin, tree)) in (1..).zip(units()) {
+        let mut script = Script::default();
+        let cuts = each_cut(&mut script, begin, &State::made(&shape(tree), 1, 0, None));
+        all.push(Made {
+            kind: "each-cut",
+            seed,
+            bytes: script.into_bytes(),
+            cuts,
+        });
+    }
+    all
+}
+
+/// What begins a unit of each kind, and on which tree.
+fn units() -> [(Call, &'static [ShortBase<'static>]); 5] {
+    let compact = Call::BeginCompact { fill: 15 };
+    [
+        (compact, &[(1, &[(8, 0, &[10, 20]), (9, 30, &[30])])]),
+        (
+            compact,
+            &[(
+                7,
+                &[
+                    (27, 0, &[0, 1]),
+                    (20, 3, &[4, 5]),
+                    (21, 6, &[6, 7]),
+                    (22, 8, &[8, 9]),
+                    (23, 10, &[10]),
+                    (26, 11, &[11, 12]),
+                    (24, 13, &[13, 14]),
+                    (25, 15, &[15, u32::MAX]),
+                ],
+            )],
+        ),
+        (Call::BeginOrder, &[(2, &[(63, 0, &[10, 20])])]),
+        (
+            Call::BeginOrder,
+            &[(1, &[(9, 0, &[10, 20]), (8, 30, &[30])])],
+        ),
+        (
+            Call::BeginOrder,
+            &[(3, &[(9, 0, &[10, 20])]), (2, &[(8, 30, &[30])])],
+        ),
+    ]
+}
+
+/// Every cut of the unit; returns how many.
+fn each_cut(script: &mut Script, begin: Call, start: &State) -> u64 {
+    let mut cuts = 0;
+    // The states after each record, the start first.
+    let mut states = vec![start.clone()];
+    let mut state = start.clone();
+    let mut call = begin;
+    while script.call(&call, &mut state).reply == reply::DONE {
+        script.dump();
+        states.push(state.clone());
+        call = Call::Step;
+    }
+    for (made, after) in states.iter().enumerate() {
+        for flushed in [0, made / 2, made] {
+            let mut state = after.clone();
+            state.store.clone_from(&states[flushed].work);
+            let found = state.read_log().records.len();
+            cut_and_recover(script, &mut state, found);
+            let after = state.read_log().records.len();
+            cut_and_recover(script, &mut state, found + (after - found) / 2);
+            cuts += 2;
+        }
+    }
+    cuts
+}
+
+/// What work pages and numbers are after a cut.
+const RUBBISH: u8 = 0xd5;
+
+fn cut_and_recover(script: &mut Script, state: &mut State, kept: usize) {
+    state.cut(kept, |bytes| bytes.fill(RUBBISH));
+    script.call(&Call::Recover, state);
+    script.dump();
 }
 
 pub fn tidying(seed: u64, _reading: bool) -> Made {

@@ -3,9 +3,9 @@
 //! service's answer, byte for byte.
 //!
 //! A kind of scripts is named after the trouble it looks for, and its plan
-//! stands at the top of its file. Rows, lengths, bad scripts and the damage
-//! made by hand are always the same; reading, cuts and the random damage go
-//! on until the wanted number of calls is made. For a program that has build,
+//! stands at the top of its file. Rows, lengths, bad scripts, and the cuts and
+//! the damage made by hand are always the same; the random kinds go on until
+//! the wanted number of calls is made. For a program that has build,
 //! find and list alone, no other call stands in a script.
 
 mod compare;
@@ -81,6 +81,9 @@ fn by_hand(reading: bool) -> Vec<Made> {
     all.extend(damage::scripts(reading));
     all.extend(lengths::scripts(reading));
     all.extend(scripts::scripts(reading));
+    if !reading {
+        all.extend(cuts::scripts());
+    }
     all
 }
 

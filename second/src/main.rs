@@ -28,16 +28,18 @@ fn main() -> ExitCode {
         ["vectors"] => write_out(vectors::vectors().as_bytes()),
         ["bench"] => serve(&Call::on),
         ["bench", "--fault", name] => serve_fault(name),
-        ["drive", ref words @ ..] => compare(words),
+        ["drive", ref words @ ..] => return compare(words),
         _ => Err(USE.to_string()),
     };
     match done {
         Ok(()) => ExitCode::SUCCESS,
-        Err(why) => {
-            eprintln!("{why}");
-            ExitCode::FAILURE
-        }
+        Err(why) => failed(&why),
     }
+}
+
+fn failed(why: &str) -> ExitCode {
+    eprintln!("{why}");
+    ExitCode::FAILURE
 }
 
 fn write_out(bytes: &[u8]) -> Result<(), String> {
@@ -57,13 +59,13 @@ fn serve_fault(name: &str) -> Result<(), String> {
     }
 }
 
-/// Drives a program; it fails where the program does.
-fn compare(words: &[&str]) -> Result<(), String> {
-    let plan = plan(words).ok_or(USE.to_string())?;
-    match drive(&plan) {
-        Ok(true) => Ok(()),
-        Ok(false) => Err("the program differs".to_string()),
-        Err(why) => Err(why.to_string()),
+/// Drives a program; fails where the program does.
+fn compare(words: &[&str]) -> ExitCode {
+    match plan(words).map(|plan| drive(&plan)) {
+        Some(Ok(true)) => ExitCode::SUCCESS,
+        Some(Ok(false)) => ExitCode::FAILURE,
+        Some(Err(why)) => failed(&why.to_string()),
+        None => failed(USE),
     }
 }
 

@@ -54,7 +54,8 @@ impl Script {
     }
 
     /// Makes the call on `state`, and writes it so that the bench makes it on
-    /// the same. List's room is filled anew, as the bench does it.
+    /// the same. List's room is filled anew, as the bench does it; a byte lent
+    /// past a buffer's right length must be zero.
     pub fn call(&mut self, call: &Call, state: &mut State) -> Answer {
         self.bring(state);
         let kept = std::mem::take(&mut state.bytes);

@@ -25,7 +25,7 @@ use std::cell::RefCell;
 /// One call in so many is followed by a dump.
 const DUMPED: u64 = 40;
 
-pub fn run(seed: u64, _reading: bool) -> Made {
+pub fn run(seed: u64) -> Made {
     let script = RefCell::new(Script::default());
     let chance = RefCell::new(Chance::new(seed));
     let write = |call: &Call, state: &mut State| -> Answer {
@@ -130,7 +130,7 @@ fn cut_and_recover(script: &mut Script, state: &mut State, kept: usize) {
     script.dump();
 }
 
-pub fn tidying(seed: u64, _reading: bool) -> Made {
+pub fn tidying(seed: u64) -> Made {
     let mut chance = Chance::new(seed);
     let state = largest(&mut chance);
     let mut tidy = Tidy {

@@ -31,7 +31,7 @@ pub fn scripts(reading: bool) -> Vec<Made> {
 /// Harms in a script, each with some calls.
 const HARMS: usize = 20;
 
-pub fn script(seed: u64, _reading: bool) -> Made {
+pub fn script(seed: u64) -> Made {
     let mut chance = Chance::new(seed);
     let mut script = Script::default();
     let mut state = random_state(&mut chance);

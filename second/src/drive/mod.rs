@@ -55,7 +55,7 @@ struct Made {
 }
 
 /// Makes a random script from a seed.
-type Maker = fn(seed: u64, reading: bool) -> Made;
+type Maker = fn(seed: u64) -> Made;
 
 /// Drives the program; true where it answers as the service does.
 pub fn drive(plan: &Plan) -> io::Result<bool> {
@@ -117,7 +117,7 @@ impl Driver<'_> {
         let goal = self.counts.calls() + calls;
         let mut seed = self.plan.seed;
         while self.counts.calls() < goal {
-            self.try_script(&maker(seed, self.plan.reading))?;
+            self.try_script(&maker(seed))?;
             seed = seed.wrapping_add(1);
         }
         Ok(())
@@ -131,14 +131,16 @@ impl Driver<'_> {
         });
         let got = got.map_err(|_| io::Error::other("the program's thread failed"))??;
         self.counts.add(made, &expected);
-        match expected.difference(&got.output).or(got.trouble) {
-            None => self.counts.passed += 1,
-            Some(why) => {
-                self.counts.failed += 1;
-                let kept = self.keep(made)?;
-                println!("{} seed {}: {why}\n  {kept}", made.kind, made.seed);
-            }
+        let difference = expected.difference(&got.output);
+        let wrong: Vec<String> = got.trouble.into_iter().chain(difference).collect();
+        if wrong.is_empty() {
+            self.counts.passed += 1;
+            return Ok(());
         }
+        self.counts.failed += 1;
+        let kept = self.keep(made)?;
+        let (kind, seed, wrong) = (made.kind, made.seed, wrong.join("; "));
+        println!("{kind} seed {seed}: {wrong}\n  {kept}");
         Ok(())
     }
 

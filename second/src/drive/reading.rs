@@ -25,7 +25,7 @@ use crate::tree;
 const ROUNDS: usize = 24;
 const LAST: u32 = u32::MAX;
 
-pub fn script(seed: u64, _reading: bool) -> Made {
+pub fn script(seed: u64) -> Made {
     let mut reader = Reader {
         chance: Chance::new(seed),
         script: Script::default(),
@@ -196,7 +196,10 @@ impl Reader {
 
     /// A build that is accepted, of any number of records up to the most.
     fn build_whole(&mut self) {
-        let f = self.chance.within(1, MOST_ROWS as u64);
+        let f = match self.chance.within(1, 3) {
+            1 => MOST_ROWS as u64,
+            _ => self.chance.within(1, MOST_ROWS as u64),
+        };
         let most = f * LEAVES.len() as u64;
         let count = match self.chance.within(1, 4) {
             1 => most,

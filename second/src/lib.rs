@@ -3,12 +3,18 @@
 //! be compared with it, reply by reply and byte by byte.
 //!
 //! `bytes`, `reply`, `page`, `log`, `tree`, `unit` and `calls` are the
-//! product, lowest first; `listing` is the program of that name. `chance`,
-//! `state`, `runs` and `vectors` make what tests run on.
+//! product, lowest first; `listing` is the program of that name. `bench` is
+//! the service bench over these calls and `drive` compares a program with it.
+//! `chance`, `state`, `runs`, `harm`, `faults` and `vectors` make what tests
+//! run on.
 
+pub mod bench;
 pub mod bytes;
 pub mod calls;
 pub mod chance;
+pub mod drive;
+pub mod faults;
+pub mod harm;
 pub mod listing;
 pub mod log;
 pub mod page;

@@ -1,15 +1,19 @@
-//! The programs: `second listing`, `second sample`, `second runs` and
-//! `second vectors`.
+//! The programs: `second listing`, `second sample`, `second runs`, `second
+//! vectors`, `second bench` and `second drive`.
 
+use second::drive::{drive, Plan, ALL_CALLS, READING_CALLS};
 use second::state::{Call, State};
-use second::{listing, runs, vectors};
-use std::io::{self, Read, Write};
+use second::{bench, faults, listing, runs, vectors};
+use std::io::{self, BufReader, BufWriter, Read, Write};
 use std::process::ExitCode;
 
 const USE: &str = "second listing            lists a store and a log read from standard input
 second sample             writes a sample store and log
 second runs [COUNT] [SEED] makes random runs with cuts
-second vectors            prints calls with all that they leave";
+second vectors            prints calls with all that they leave
+second bench [--fault NAME] answers a script read from standard input
+second drive [--reading] [--calls N] [--seed S] PROGRAM [ARGS..]
+                          compares a program with the bench, script by script";
 
 /// Runs that `second runs` makes where no count is given.
 const USUAL_RUNS: u64 = 20_000;
@@ -22,19 +26,68 @@ fn main() -> ExitCode {
         ["sample"] => write_out(&sample()),
         ["runs", ref numbers @ ..] if numbers.len() <= 2 => print_runs(numbers),
         ["vectors"] => write_out(vectors::vectors().as_bytes()),
+        ["bench"] => serve(&Call::on),
+        ["bench", "--fault", name] => serve_fault(name),
+        ["drive", ref words @ ..] => return compare(words),
         _ => Err(USE.to_string()),
     };
     match done {
         Ok(()) => ExitCode::SUCCESS,
-        Err(why) => {
-            eprintln!("{why}");
-            ExitCode::FAILURE
-        }
+        Err(why) => failed(&why),
     }
+}
+
+fn failed(why: &str) -> ExitCode {
+    eprintln!("{why}");
+    ExitCode::FAILURE
 }
 
 fn write_out(bytes: &[u8]) -> Result<(), String> {
     io::stdout().write_all(bytes).map_err(|why| why.to_string())
+}
+
+fn serve(program: &runs::Program) -> Result<(), String> {
+    let (input, output) = (BufReader::new(io::stdin()), BufWriter::new(io::stdout()));
+    bench::serve(input, output, program).map_err(|why| why.to_string())
+}
+
+fn serve_fault(name: &str) -> Result<(), String> {
+    let names: Vec<&str> = faults::FAULTS.iter().map(|fault| fault.name).collect();
+    match faults::fault(name) {
+        Some(program) => serve(program),
+        None => Err(format!("faults: {}", names.join(" "))),
+    }
+}
+
+/// Drives a program; fails where the program does.
+fn compare(words: &[&str]) -> ExitCode {
+    match plan(words).map(|plan| drive(&plan)) {
+        Some(Ok(true)) => ExitCode::SUCCESS,
+        Some(Ok(false)) => ExitCode::FAILURE,
+        Some(Err(why)) => failed(&why.to_string()),
+        None => failed(USE),
+    }
+}
+
+fn plan(words: &[&str]) -> Option<Plan> {
+    let (mut reading, mut calls, mut seed) = (false, None, 1);
+    let mut words = words.iter();
+    let first = loop {
+        match *words.next()? {
+            "--reading" => reading = true,
+            "--calls" => calls = Some(words.next()?.parse().ok()?),
+            "--seed" => seed = words.next()?.parse().ok()?,
+            word => break word,
+        }
+    };
+    let usual = if reading { READING_CALLS } else { ALL_CALLS };
+    let program = std::iter::once(first).chain(words.copied());
+    Some(Plan {
+        reading,
+        calls: calls.unwrap_or(usual),
+        seed,
+        program: program.map(str::to_string).collect(),
+    })
 }
 
 fn print_listing() -> Result<(), String> {

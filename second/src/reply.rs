@@ -35,3 +35,27 @@ pub const ABSENT: u8 = 15;
 pub const RECORDS: u8 = 16;
 /// Build needs over 56 leaves or 7 base pages.
 pub const LARGE: u8 = 17;
+
+/// The replies of each call, in the order of its tests ("Order of tests").
+pub const ORDER: [(&str, &[u8]); 10] = [
+    ("build", &[1, 12, 16, 17, 0]),
+    ("recover", &[1, 2, 3, 4, 5, 6, 7, 8, 0]),
+    ("begin_compact", &[1, 2, 12, 9, 3, 8, 11, 6, 7, 0]),
+    ("begin_order", &[1, 2, 9, 3, 8, 11, 6, 7, 0]),
+    ("step", &[1, 2, 10, 3, 5, 6, 7, 0]),
+    ("flush", &[1, 2, 12, 13, 0]),
+    ("force", &[1, 2, 0]),
+    ("checkpoint", &[1, 2, 9, 14, 7, 0]),
+    ("find", &[1, 2, 9, 3, 15, 0]),
+    ("list", &[1, 2, 9, 3, 8, 0]),
+];
+
+/// A call by its name, and a reply.
+pub type Pair = (&'static str, u8);
+
+/// Every pair of call and reply that there is.
+pub fn pairs() -> impl Iterator<Item = Pair> {
+    ORDER
+        .into_iter()
+        .flat_map(|(name, replies)| replies.iter().map(move |&reply| (name, reply)))
+}

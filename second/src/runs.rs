@@ -22,7 +22,7 @@ use std::collections::BTreeMap;
 use std::fmt;
 
 /// What makes the calls: the second program, or one with a planted fault.
-pub type Program = dyn Fn(&Call, &mut State) -> Answer;
+pub type Program<'a> = dyn Fn(&Call, &mut State) -> Answer + 'a;
 
 /// Most records that a recovery may append.
 const MOST_APPENDED: u32 = 25;
@@ -111,7 +111,7 @@ pub fn run(seed: u64, program: &Program) -> Result<Counts, String> {
 
 struct World<'a> {
     chance: Chance,
-    program: &'a Program,
+    program: &'a Program<'a>,
     counts: Counts,
     state: State,
     /// The pages when the log's check record was written.
@@ -500,7 +500,7 @@ impl World<'_> {
 }
 
 /// A well-formed tree: thin leaves mostly, on shuffled places, under one or
-/// several base pages, entry keys anywhere that the tree allows.
+/// several base pages.
 pub fn random_shape(chance: &mut Chance) -> Vec<BaseShape> {
     let count = match chance.within(1, 20) {
         1 => 0,
@@ -512,17 +512,24 @@ pub fn random_shape(chance: &mut Chance) -> Vec<BaseShape> {
         1 => LEAVES.len(),
         _ => (count + chance.within(0, 6) as usize).min(LEAVES.len()),
     };
+    let most = if chance.one_in(5) {
+        MOST_ROWS as u64
+    } else {
+        4
+    };
+    shape_with(chance, count, spread, most)
+}
+
+/// A well-formed tree of `count` leaves, `most` records at most in each, on
+/// the first `spread` leaf pages, shuffled as a rule; entry keys anywhere that
+/// the tree allows.
+pub fn shape_with(chance: &mut Chance, count: usize, spread: usize, most: u64) -> Vec<BaseShape> {
     let mut places: Vec<u16> = LEAVES.take(spread).collect();
     let mut bases: Vec<u16> = BASES.collect();
     if !chance.one_in(4) {
         chance.shuffle(&mut places);
     }
     chance.shuffle(&mut bases);
-    let most = if chance.one_in(5) {
-        MOST_ROWS as u64
-    } else {
-        4
-    };
     let mut shape: Vec<BaseShape> = Vec::new();
     let mut next = chance.within(0, 3) as u32;
     for (i, &page) in places.iter().take(count).enumerate() {

@@ -9,25 +9,12 @@
 
 use second::bytes::{page_of_mut, put32, LOG_BYTES, PAGES_BYTES, PAGE_COUNT};
 use second::chance::Chance;
+use second::harm::{any_call, harm, random_state};
 use second::log::{Begin, Record, Type};
 use second::page::Body;
-use second::runs::random_shape;
+use second::reply::{pairs, Pair, ORDER};
 use second::state::{put_page, record_bytes, row, shape, Call, State, Values};
 use std::collections::BTreeSet;
-
-/// The replies of each call, in the order of its tests.
-const ORDER: [(&str, &[u8]); 10] = [
-    ("build", &[1, 12, 16, 17, 0]),
-    ("recover", &[1, 2, 3, 4, 5, 6, 7, 8, 0]),
-    ("begin_compact", &[1, 2, 12, 9, 3, 8, 11, 6, 7, 0]),
-    ("begin_order", &[1, 2, 9, 3, 8, 11, 6, 7, 0]),
-    ("step", &[1, 2, 10, 3, 5, 6, 7, 0]),
-    ("flush", &[1, 2, 12, 13, 0]),
-    ("force", &[1, 2, 0]),
-    ("checkpoint", &[1, 2, 9, 14, 7, 0]),
-    ("find", &[1, 2, 9, 3, 15, 0]),
-    ("list", &[1, 2, 9, 3, 8, 0]),
-];
 
 const LAST: u32 = u32::MAX;
 const COMPACT: Call = Call::BeginCompact { fill: 4 };
@@ -37,13 +24,10 @@ const BUILD: Call = Call::Build { f: 15, g: 30 };
 const ALL: Call = Call::List { low: 0, high: LAST };
 const FIND: Call = Call::Find { key: 10 };
 
-type Pairs = BTreeSet<(&'static str, u8)>;
+type Pairs = BTreeSet<Pair>;
 
 fn every_pair() -> Pairs {
-    let of = |(name, replies): (&'static str, &'static [u8])| {
-        replies.iter().map(move |&reply| (name, reply))
-    };
-    ORDER.into_iter().flat_map(of).collect()
+    pairs().collect()
 }
 
 /// Makes the call and tests what holds of every refusal.
@@ -318,86 +302,6 @@ fn by_hand() -> Vec<(Call, u8, State)> {
     cases
 }
 
-/// A small state after some random calls.
-fn random_state(chance: &mut Chance) -> State {
-    let tree = random_shape(chance);
-    let number = match chance.within(1, 4) {
-        1 => LAST - chance.within(0, 30) as u32,
-        _ => chance.within(0, 50) as u32,
-    };
-    let mut state = State::made(&tree, number, chance.within(0, 9) as u32, None);
-    if chance.one_in(4) {
-        state.set_check(number, LAST - chance.within(0, 3) as u32, Some(3));
-    }
-    if chance.one_in(6) {
-        let free = 4 * chance.within(20, 200) as usize;
-        if number < 1000 && state.read_log().unit < 1000 {
-            state.fill_log(free);
-        }
-    }
-    for _ in 0..chance.within(0, 20) {
-        let call = match chance.within(1, 6) {
-            1 => Call::BeginCompact { fill: 0 },
-            2 => Call::BeginOrder,
-            3 => Call::Force,
-            _ => Call::Step,
-        };
-        call.on(&mut state);
-    }
-    if chance.one_in(3) {
-        Call::Force.on(&mut state);
-        for page in 0..PAGE_COUNT as u32 {
-            Call::Flush { page }.on(&mut state);
-        }
-    }
-    state
-}
-
-/// Changes some bytes, most of them where something stands.
-fn damage(chance: &mut Chance, bytes: &mut [u8], used: usize) {
-    for _ in 0..chance.within(1, 2) {
-        let most = if chance.one_in(5) { bytes.len() } else { used };
-        let at = chance.within(0, most as u64 - 1) as usize;
-        bytes[at] = match chance.within(1, 4) {
-            1 => chance.draw() as u8,
-            2 => bytes[at].wrapping_add(1),
-            3 => bytes[at].wrapping_sub(1),
-            _ => 0,
-        };
-    }
-}
-
-fn damage_page(chance: &mut Chance, pages: &mut [u8]) {
-    let place = chance.within(0, 13) as u16;
-    damage(chance, page_of_mut(pages, place), 64);
-}
-
-fn any_call(chance: &mut Chance) -> Call {
-    let number = match chance.within(1, 3) {
-        1 => chance.draw() as u32,
-        _ => chance.within(0, 66) as u32,
-    };
-    let other = chance.within(0, 66) as u32;
-    match chance.within(1, 16) {
-        1 => Call::Build {
-            f: number,
-            g: other,
-        },
-        2..=4 => Call::Recover,
-        5..=6 => Call::BeginCompact { fill: other % 17 },
-        7..=8 => Call::BeginOrder,
-        9..=11 => Call::Step,
-        12 => Call::Flush { page: number },
-        13 => Call::Force,
-        14 => Call::Checkpoint { clear: true },
-        15 => Call::Find { key: number },
-        _ => Call::List {
-            low: number,
-            high: other,
-        },
-    }
-}
-
 #[test]
 fn every_reply_of_every_call_is_met() {
     let mut met = Pairs::new();
@@ -422,19 +326,11 @@ fn random_damage_is_refused_or_does_no_harm() {
     for seed in 1..=3000 {
         let mut chance = Chance::new(seed);
         let mut state = random_state(&mut chance);
-        let used = state.numbers.used as usize;
         for _ in 0..12 {
             let call = any_call(&mut chance);
             let mut lent = state.clone();
             lent.bytes = vec![0; chance.within(0, 40) as usize];
-            match chance.within(1, 8) {
-                1..=2 => damage_page(&mut chance, &mut lent.work),
-                3 => damage_page(&mut chance, &mut lent.store),
-                4..=5 => damage(&mut chance, &mut lent.log, used),
-                6 => lent.numbers.forced = chance.within(0, 300) as u32,
-                7 => lent.log.truncate(chance.within(0, 8192) as usize),
-                _ => chance.fill(&mut lent.work),
-            }
+            harm(&mut chance, &mut lent);
             let reply = make(call, &lent, &format!("seed {seed}"));
             met.insert((call.name(), reply));
             calls += 1;

@@ -2,6 +2,7 @@
 //! there, and each line, read back, gives the call that it stands for.
 
 use second::bytes::Numbers;
+use second::reply;
 use second::state::{Answer, Call, State, Values};
 use second::vectors::{cases, line};
 use std::collections::{BTreeMap, BTreeSet};
@@ -31,19 +32,6 @@ const LABELS: [&str; 24] = [
     "log-field",
     "page-field",
     "check-zero",
-];
-
-const PAIRS: [(&str, &[u8]); 10] = [
-    ("build", &[0, 1, 12, 16, 17]),
-    ("recover", &[0, 1, 2, 3, 4, 5, 6, 7, 8]),
-    ("begin_compact", &[0, 1, 2, 3, 6, 7, 8, 9, 11, 12]),
-    ("begin_order", &[0, 1, 2, 3, 6, 7, 8, 9, 11]),
-    ("step", &[0, 1, 2, 3, 5, 6, 7, 10]),
-    ("flush", &[0, 1, 2, 12, 13]),
-    ("force", &[0, 1, 2]),
-    ("checkpoint", &[0, 1, 2, 7, 9, 14]),
-    ("find", &[0, 1, 2, 3, 9, 15]),
-    ("list", &[0, 1, 2, 3, 8, 9]),
 ];
 
 fn number(word: &str) -> u32 {
@@ -159,11 +147,9 @@ fn every_label_and_every_pair_is_there() {
         let reply = case.call.on(&mut case.state.clone()).reply;
         *pairs.entry((case.call.name(), reply)).or_default() += 1;
     }
-    for (name, replies) in PAIRS {
-        for &reply in replies {
-            let times = pairs.get(&(name, reply)).copied().unwrap_or(0);
-            assert!(times >= 2, "{name} {reply}: {times} vectors");
-        }
+    for (name, reply) in reply::pairs() {
+        let times = pairs.get(&(name, reply)).copied().unwrap_or(0);
+        assert!(times >= 2, "{name} {reply}: {times} vectors");
     }
     assert_eq!(pairs.len(), 67);
     assert!(cases.len() >= 320);

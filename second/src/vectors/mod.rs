@@ -69,6 +69,14 @@ pub fn cases() -> Vec<Case> {
     cases.0
 }
 
+/// The cases of the rows of "Numbers to try", in their order, each labelled
+/// with its row.
+pub fn row_cases() -> Vec<Case> {
+    let mut cases = Cases(Vec::new());
+    cases.rows();
+    cases.0
+}
+
 /// The vector of one case, with its line end.
 pub fn line(case: &Case) -> String {
     let before = &case.state;

@@ -14,16 +14,18 @@ impl Cases {
         self.unit("row-3", Call::BeginCompact { fill: 6 }, &one);
         self.add("row-4", Call::BeginCompact { fill: 4 }, &two);
         self.unit("row-5", Call::BeginOrder, &two);
-        let mut six = after(&one, Call::BeginCompact { fill: 4 });
+        let mut six = one.clone();
+        self.then("row-6", Call::BeginCompact { fill: 4 }, &mut six);
         self.then("row-6", Call::Force, &mut six);
-        six.done(Call::Step);
+        self.then("row-6", Call::Step, &mut six);
         self.add("row-6", Call::Flush { page: 9 }, &six);
         self.then("row-6", Call::Force, &mut six);
         self.then("row-6", Call::Flush { page: 9 }, &mut six);
         self.add("row-7", Call::Recover, &cut(&six, 3));
         self.unit("row-8", Call::BeginOrder, &row_eight());
         self.unit("row-9", Call::BeginCompact { fill: 4 }, &row_nine());
-        let none = State::built(&[], 1, 1);
+        let mut none = State::zero();
+        self.then("row-10", Call::Build { f: 1, g: 1 }, &mut none);
         self.add("row-10", Call::Find { key: 10 }, &none);
         self.add("row-10", COMPACT, &none);
         self.add("row-10", Call::BeginOrder, &none);
@@ -36,10 +38,11 @@ impl Cases {
             empty.bytes = record_bytes(&(1..=count).collect::<Vec<u32>>());
             self.add("row-11", Call::Build { f: 15, g: 30 }, &empty);
         }
-        for (label, free) in [("room-exact", 164), ("room-less", 160)] {
+        // All lengths are multiples of 4, so one fewer is 4 fewer.
+        for free in [164, 160] {
             let mut twelve = one.clone();
             twelve.fill_log(free);
-            self.add(label, Call::BeginCompact { fill: 4 }, &twelve);
+            self.add("row-12", Call::BeginCompact { fill: 4 }, &twelve);
         }
     }
 

@@ -40,7 +40,7 @@ use Rattle.promise.proofs.Live.{Live, image-bare, stored-of, stored, wo
 use Rattle.promise.proofs.Called.{Some, ending-some, todo-of, step-with, formed-target, keeps-head, bare-at, nothing-forced, step-is, apply-begin}
 
 -- no steps to come: no unit is open
-open-none : {u : ℕ} (o : Option Open) → Waits u o → length (todoOf o) ≡ 0 → o ≡ none
+pub open-none : {u : ℕ} (o : Option Open) → Waits u o → length (todoOf o) ≡ 0 → o ≡ none
 unfolding todoOf
 open-none none w e = refl
 open-none (some o) w e = let t : Some (o .todo) = ending-some (waits-open w .todo) in absurd (omega (arith, ap length (t .is)))
@@ -99,7 +99,7 @@ module _ (rs : List (List ℕ)) (U : UnitLaws store (asked rs)) (d : Lent) (v : 
 -- ---- an uncut run is a run of calls
 
 -- the run's pages, log and numbers
-abbrev ran : (o : List ℕ) (c : Check) (w : List ℕ) (l : List Rec) → Lent
+abbrev pub ran : (o : List ℕ) (c : Check) (w : List ℕ) (l : List Rec) → Lent
 ran o c w l = lent (stateOf c l .at) 24 w o (image c l) []
 
 module _ (rs : List (List ℕ)) (U : UnitLaws store (asked rs)) (o : List ℕ) (c : Check) (g : Settled store (asked rs) o c []) where

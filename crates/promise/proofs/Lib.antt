@@ -9,3 +9,5 @@ pub mod Recovering
 pub mod Live
 pub mod Called
 pub mod Accepted
+pub mod Histories
+pub mod Starts

@@ -1,0 +1,215 @@
+-- Every state of a history is live or lost in the sense of Live.antt; so recovery keeps what is promised. Assumes nothing but the unit laws
+-- and what is known of a finished build, which are handed in.
+use Prim.Native.Nat.{ℕ, zero, suc, _+_, _-_, _*_, _/_, _≤_, _<_}
+use native.Mathlib.Omega.{arith}
+use mathlib.Core.Path.{_≡_, refl, sym, ap, ap₂, _∙_, subst}
+use mathlib.Core.Bool.{Bool, true, false, false≢true}
+use mathlib.Core.List.{List, [], _∷_, _++_, append-nil}
+use mathlib.Core.Option.{Option, some, none, Option·some-injective}
+use lib.ListN.{length, take, getD, length-append, length-drop}
+use lib.Seq.{take-length, take-append-le, take-take, length-take-le}
+use lib.Dec.{eqb}
+use borrow.Author.Tests.{eqb-true}
+use Rattle.field.specs.Test.{pick, need, given}
+use Rattle.field.specs.Bytes.{Bytes, zeroes}
+use Rattle.field.proofs.Test.{all-head, all-tail}
+use Rattle.page.specs.Page.{rowsOf}
+use Rattle.page.specs.Pages.{pages}
+use Rattle.log.specs.Record.{Check, Begin, Rec}
+use Rattle.log.specs.Plan.{Step, takeOut, bringIn, point, close, gather, removals, others, replacing, compactPlan, movePlan, swapPlan, plan}
+use Rattle.log.specs.Log.{Open, State, beginOk, Log, readLog, atEnd, lastForced}
+use Rattle.log.proofs.Begin.{beginOk-limits}
+use Rattle.log.proofs.State.{sizes, at-atEnd}
+use Rattle.log.proofs.Valid.{Good}
+use Rattle.log.proofs.Sound.{Waits, waits-open, awaits-todo, sound-atEnd}
+use Rattle.log.proofs.Ends.{Ends, lastForced-facts, sizes-take-less}
+use Rattle.field.proofs.Part.{split}
+use Rattle.store.specs.Calls.{Lent, lent, Left, left, threeSized, pagesSized, logSized, logLength, todoOf}
+use Rattle.store.specs.Calls as Calls
+use Rattle.replay.specs.Store.{Settled, Reached, Recovers}
+use Rattle.replay.specs.Store as Replay
+use Rattle.replay.specs.Laws.{UnitLaws}
+use Rattle.replay.proofs.Theorem.{theorem, origin-settled}
+use Rattle.promise.specs.Parts.{logOf, stateOf, store, asked}
+use Rattle.promise.specs.Promise.{Call, toBeginCompact, toBeginOrder, toStep, toFlush, toForce, toCheckpoint, toFind, toList, does, InBytes, Cut, History, Uncut, Kept}
+use Rattle.promise.proofs.OnPages.{page-laws}
+use Rattle.promise.proofs.Image.{image, Stored, Numbered, read-image, take-image, length-image}
+use Rattle.promise.proofs.Recovering.{recoveredAs, recover-is}
+use Rattle.promise.proofs.Live.{Live, Lost, live-lost, live-room, lost-room, stored-of}
+use Rattle.promise.proofs.Called.{begin-compact-live, begin-order-live, step-live, flush-live, force-live, checkpoint-live, find-live, list-live}
+use Rattle.promise.proofs.Accepted.{open-none, ran, run-calls}
+
+-- ---- a unit has 25 steps after its begin record at most
+
+length-gather : (dest : ℕ) (ps : List ℕ) → length (gather dest ps) ≤ 2 * length ps
+unfolding gather
+length-gather dest [] = omega arith
+length-gather dest (p ∷ ps) = by-pick (eqb p dest) (gather dest ps) (length-gather dest ps)
+  where
+    by-pick : (b : Bool) (ts : List Step) → length ts ≤ 2 * length ps → length (pick b ts (takeOut p dest ∷ bringIn p dest 1 ∷ ts)) ≤ 2 * suc (length ps)
+    by-pick true ts h = unfold pick in omega arith
+    by-pick false ts h = unfold pick in omega arith
+
+length-removals : (base : ℕ) (ps : List ℕ) → length (removals base ps) ≡ length ps
+unfolding removals
+length-removals base [] = refl
+length-removals base (p ∷ ps) = ap suc (length-removals base ps)
+
+length-others : (ps : List ℕ) → length (others ps) ≤ length ps - 1
+unfolding others
+length-others [] = omega arith
+length-others (p ∷ ps) = omega arith
+
+length-replacing : (base c dest : ℕ) → length (replacing base c dest) ≤ 1
+unfolding replacing
+length-replacing base c dest = by-pick (eqb c dest)
+  where
+    by-pick : (b : Bool) → length (pick b [] (point base c dest false ∷ [])) ≤ 1
+    by-pick true = unfold pick in omega arith
+    by-pick false = unfold pick in omega arith
+
+length-compact : (base dest : ℕ) (ls : List ℕ) → length ls ≤ 8 → length (compactPlan base dest ls) ≤ 24
+unfolding compactPlan
+length-compact base dest ls h =
+    rw (
+      length-append (gather dest ls) (replacing base (getD ls 0 0) dest ++ removals base (others ls)),
+      length-append (replacing base (getD ls 0 0) dest) (removals base (others ls)),
+      length-removals base (others ls),
+    )
+    (omega (arith, length-gather dest ls, length-replacing base (getD ls 0 0) dest, length-others ls))
+
+length-move : (p a b : ℕ) → length (movePlan p a b) ≤ 24
+unfolding movePlan
+length-move p a b = omega arith
+
+length-swap : (p q a b : ℕ) → length (swapPlan p q a b) ≤ 24
+unfolding swapPlan
+length-swap p q a b = omega arith
+
+pick-length : (t : Bool) (x y : List Step) → length x ≤ 24 → length y ≤ 24 → length (pick t x y) ≤ 24
+unfolding pick
+pick-length true x y h k = h
+pick-length false x y h k = k
+
+pub length-plan : (g : Begin) → beginOk g ≡ true → length (plan g) ≤ 25
+unfolding plan
+length-plan g e =
+    let l : length (g .leaves) ≤ 8 = beginOk-limits g e .leaves in
+    let p : ℕ = getD (g .bases) 0 0 in
+    let q : ℕ = getD (g .bases) 1 p in
+    let a : ℕ = getD (g .leaves) 0 0 in
+    let b : ℕ = getD (g .leaves) 1 0 in
+    let xs : List Step =
+    pick (eqb (g .type) 1) (compactPlan p (g .dest) (g .leaves)) (pick (eqb (g .type) 2) (swapPlan p q a b) (movePlan p a (g .dest))) in
+    let n : length xs ≤ 24 =
+    pick-length (eqb (g .type) 1) (compactPlan p (g .dest) (g .leaves)) (pick (eqb (g .type) 2) (swapPlan p q a b) (movePlan p a (g .dest)))
+    (length-compact p (g .dest) (g .leaves) l)
+    (pick-length (eqb (g .type) 2) (swapPlan p q a b) (movePlan p a (g .dest)) (length-swap p q a b) (length-move p a (g .dest))) in
+    rw (length-append xs (close (g .unit) ∷ [])) (omega arith)
+
+waits-few : {u : ℕ} (o : Option Open) → Waits u o → length (todoOf o) ≤ 25
+unfolding todoOf
+waits-few none w = omega arith
+waits-few (some o) w =
+    let a = waits-open w in
+    rw (awaits-todo a, length-drop (length (o .did)) (plan (o .start))) (omega (arith, length-plan (o .start) (a .ok)))
+
+few-left : (c : Check) (l : List Rec) → Good (logOf c l) → length (todoOf (stateOf c l .opened)) ≤ 25
+few-left c l g = waits-few (stateOf c l .opened) (sound-atEnd (logOf c l) g .waits)
+
+module _ (rs : List (List ℕ)) (U : UnitLaws store (asked rs)) where
+  -- ---- calls
+
+  does-live : (k : Call) (d : Lent) → Live rs d → Live rs (does k d .now)
+  unfolding does
+  does-live (toBeginCompact fill) d v = begin-compact-live rs U d v fill
+  does-live toBeginOrder d v = begin-order-live rs U d v
+  does-live toStep d v = step-live rs U d v
+  does-live (toFlush p) d v = flush-live rs U d v p
+  does-live toForce d v = force-live rs U d v
+  does-live (toCheckpoint clear) d v = checkpoint-live rs U d v clear
+  does-live (toFind key) d v = find-live rs U d v key
+  does-live (toList low high) d v = list-live rs U d v low high
+
+  -- ---- cuts
+
+  -- a record's end that is not below another's is the end of no earlier record
+  no-earlier : (m k : ℕ) (l : List Rec) → m ≤ length l → 24 + sizes (take m l) ≤ 24 + sizes (take k l) → m ≤ k
+  no-earlier m k l h e = split k m (λ less. absurd (omega (arith, sizes-take-less k m l less h))) (λ a. a)
+
+  cut-lost : (d d′ : Lent) (forced : ℕ) → Lost rs d forced → Cut forced d d′ → Lost rs d′ forced
+  cut-lost d d′ forced v x =
+      let c : Check = v .top in
+      let l : List Rec = v .recs in
+      let g : Good (logOf c l) = stored-of rs U (v .reached) .good in
+      let b : x .before ≡ logOf c l =
+      Option·some-injective (x .before) (logOf c l) (sym (x .was) ∙ ap readLog (v .log) ∙ read-image c l g) in
+      let e : Ends (x .kept) 24 (c .number) l (x .number) = lastForced-facts (x .kept) (logOf c l) (x .number) (rw b at (x .whole)) in
+      let m : ℕ = e .count in
+      let fewer : v .many ≤ m = no-earlier (v .many) m l (v .among) (rw (← (v .held), ← (e .place)) (x .enough)) in
+      record {
+        origin = v .origin;
+        work = none;
+        top = c;
+        recs = take m l;
+        many = v .many;
+        reached = subst (λ (s : List ℕ). Reached store (asked rs) (v .origin) none s c (take m l) (v .many)) (sym (x .store))
+            (Reached.cut m (v .reached) fewer (e .among));
+        log = x .log ∙ ap₂ (λ (k : ℕ) (b : List ℕ). take k b ++ zeroes (logLength - k)) (e .place) (v .log) ∙ take-image c l m g;
+        held = v .held ∙ ap (λ (a : List Rec). 24 + sizes a) (sym (take-take (v .many) m l fewer));
+        among = omega (arith, length-take-le m l (e .among));
+      }
+
+  -- ---- recovery
+
+  recovery-live : (d : Lent) (forced : ℕ) → Lost rs d forced → threeSized d ≡ true → Live rs (Calls.recover d .now)
+  recovery-live d forced v sized =
+      let c : Check = v .top in
+      let l : List Rec = v .recs in
+      let x : Recovers store (asked rs) (v .origin) (d .store) c l = theorem store (asked rs) (page-laws rs) U (v .reached) in
+      let e : Calls.recover d ≡ recoveredAs d c l (x .work) (x .rest) =
+      recover-is rs d (v .origin) c l sized (v .log) (stored-of rs U (v .reached) .good) x in
+      subst (λ (y : Left). Live rs (y .now)) (sym e)
+      (record {
+        origin = v .origin;
+        top = c;
+        recs = l ++ x .rest;
+        many = length l;
+        reached = Reached.recovery (v .reached) (x .accepted);
+        log = refl;
+        numbered = record {
+          used = refl;
+          forced = at-atEnd (logOf c l) ∙ ap (λ (a : List Rec). 24 + sizes a)
+              (sym (take-append-le (length l) l (x .rest) (omega arith) ∙ take-length l));
+          among = omega (arith, length-append l (x .rest));
+        };
+      })
+
+  -- what is promised of it
+  recovery-kept : (d : Lent) (forced : ℕ) → Lost rs d forced → threeSized d ≡ true → Kept rs d
+  recovery-kept d forced v sized =
+      let c : Check = v .top in
+      let l : List Rec = v .recs in
+      let g : Good (logOf c l) = stored-of rs U (v .reached) .good in
+      let x : Recovers store (asked rs) (v .origin) (d .store) c l = theorem store (asked rs) (page-laws rs) U (v .reached) in
+      let e : Calls.recover d ≡ recoveredAs d c l (x .work) (x .rest) = recover-is rs d (v .origin) c l sized (v .log) g x in
+      let more : Good (logOf c (l ++ x .rest)) = x .settled .shape .0 in
+      record {
+        accepted = ap (λ (y : Left). y .reply) e;
+        tree = ap (λ (y : Left). Rattle.tree.specs.Tree.wellFormed (pages (y .now .work))) e ∙ x .settled .fine .0;
+        records = ap (λ (y : Left). Rattle.tree.specs.Tree.allRecords (pages (y .now .work))) e ∙ x .settled .fine .1;
+        found = logOf c l;
+        was = ap readLog (v .log) ∙ read-image c l g;
+        left = logOf c (l ++ x .rest);
+        is = ap (λ (y : Left). readLog (y .now .log)) e ∙ read-image c (l ++ x .rest) more;
+        complete = open-none (stateOf c (l ++ x .rest) .opened) (sound-atEnd (logOf c (l ++ x .rest)) more .waits) (x .settled .complete);
+        grown = x .rest;
+        surviving = refl;
+        count = ap (λ (y : Left). y .values) e;
+        few = omega (arith, x .appended, few-left c l g);
+        origin = v .origin;
+        run = ran (v .origin) c (x .work) (l ++ x .rest);
+        uncut = run-calls rs U (v .origin) c (origin-settled store (asked rs) (page-laws rs) U (v .reached)) (x .uncut);
+        same-work = sym (ap (λ (y : Left). y .now .work) e);
+        same-log = sym (ap (λ (y : Left). y .now .log) e);
+      }

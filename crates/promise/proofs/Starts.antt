@@ -1,0 +1,150 @@
+-- The two starts of a history are live states: an accepted recovery whose log held only its check record, by what its tests have found.
+-- Assumes nothing.
+use Prim.Native.Nat.{ℕ, zero, suc, _+_, _-_, _≤_, _<_}
+use native.Mathlib.Omega.{arith}
+use mathlib.Core.Path.{_≡_, refl, sym, ap, ap₂, _∙_, subst}
+use mathlib.Core.Bool.{Bool, true, false}
+use mathlib.Core.List.{List, [], _∷_, _++_}
+use mathlib.Core.Option.{Option, some, none}
+use lib.ListN.{length, getD}
+use lib.Dec.{eqb, leb}
+use borrow.Author.Tests.{eqb-true, leb-true}
+use Rattle.field.specs.Test.{both, need, given}
+use Rattle.field.specs.Bytes.{Bytes}
+use Rattle.field.proofs.Test.{both-1, both-2, all-head, all-tail, need-true, given-some}
+use Rattle.page.specs.Page.{number}
+use Rattle.page.specs.Pages.{page, pages, allFormed}
+use Rattle.page.proofs.Pages.{length-pages, getD-pages, formed-page}
+use Rattle.log.specs.Record.{Check, Rec}
+use Rattle.log.specs.Log.{first, afterAll, Log, readLog, atEnd}
+use Rattle.log.proofs.State.{sizes, number-atEnd}
+use Rattle.tree.specs.Tree.{wellFormed, allRecords}
+use Rattle.unit.specs.Next.{repeatAll}
+use Rattle.store.specs.Calls.{Lent, lent, Left, left, refused, zeroed, threeSized, pagesSized, logSized, noneNewer, Went, went, finish, recovered, todoOf}
+use Rattle.store.specs.Calls as Calls
+use Rattle.replay.specs.Store.{Settled, Reached}
+use Rattle.promise.specs.Parts.{logOf, stateOf, store, asked}
+use Rattle.promise.specs.Promise.{InBytes}
+use Rattle.promise.proofs.Image.{image, Stored, image-read, stored-read}
+use Rattle.promise.proofs.Live.{Live}
+use Rattle.promise.proofs.Called.{bare-at, nothing-forced}
+
+-- ---- an accepted chain of tests
+
+passed : (b : Bool) (x y : Left) → (x .reply ≡ 0 → ⊥) → need b x y .reply ≡ 0 → b ≡ true
+unfolding need
+passed true x y bad e = refl
+passed false x y bad e = absurd (bad e)
+
+onward : (b : Bool) (x y : Left) → b ≡ true → need b x y .reply ≡ 0 → y .reply ≡ 0
+onward b x y t e = sym (ap (λ (z : Left). z .reply) (need-true b x y t)) ∙ e
+
+refused-bad : (k r : ℕ) (d : Lent) → refused k (suc r) d .reply ≡ 0 → ⊥
+unfolding refused
+refused-bad k r d e = omega arith
+
+zeroed-bad : (r : ℕ) (d : Lent) → zeroed (suc r) d .reply ≡ 0 → ⊥
+unfolding zeroed
+zeroed-bad r d e = omega arith
+
+-- ---- what an accepted recovery of a check record alone has found
+
+pub record Found (d : Lent) (c : Check) : Type 0 where
+  pub sized : threeSized d ≡ true
+  pub form : allFormed 0 (pages (d .store)) ≡ true
+  pub low : noneNewer (stateOf c [] .number) (pages (d .store)) ≡ true
+  pub well : wellFormed (pages (d .store)) ≡ true
+  pub is : Calls.recover d ≡ left 0 (0 ∷ []) (lent (stateOf c [] .at) (stateOf c [] .at) (d .store) (d .store) (d .log) (d .bytes))
+
+-- nothing is repeated and nothing finished
+bare-recovered : (d : Lent) (c : Check) → given (repeatAll (c .number + 1) [] (d .store)) (zeroed 5 d) (λ w.
+    recovered d (stateOf c []) (finish (todoOf (stateOf c [] .opened)) (stateOf c []) w (d .log)))
+    ≡ need (wellFormed (pages (d .store))) (zeroed 8 d)
+    (left 0 (0 ∷ []) (lent (stateOf c [] .at) (stateOf c [] .at) (d .store) (d .store) (d .log) (d .bytes)))
+unfolding repeatAll given recovered finish todoOf atEnd afterAll first
+bare-recovered d c =
+    let z : c .number - c .number ≡ 0 = omega arith in
+    rw z
+
+pub found-of : (d : Lent) (c : Check) → readLog (d .log) ≡ some (logOf c []) → Calls.recover d .reply ≡ 0 → Found d c
+unfolding Calls.recover
+found-of d c r e =
+    let s : threeSized d ≡ true = passed (threeSized d) (refused 1 1 d) _ (refused-bad 1 0 d) e in
+    let e1 = onward (threeSized d) (refused 1 1 d) _ s e in
+    let e2 = sym (ap (λ (z : Left). z .reply) (given-some (readLog (d .log)) (logOf c []) (zeroed 2 d) _ r)) ∙ e1 in
+    let f : allFormed 0 (pages (d .store)) ≡ true = passed (allFormed 0 (pages (d .store))) (zeroed 3 d) _ (zeroed-bad 2 d) e2 in
+    let e3 = onward (allFormed 0 (pages (d .store))) (zeroed 3 d) _ f e2 in
+    let n : noneNewer (stateOf c [] .number) (pages (d .store)) ≡ true = passed (noneNewer (stateOf c [] .number) (pages (d .store))) (zeroed 4 d) _ (zeroed-bad 3 d) e3 in
+    let e4 = onward (noneNewer (stateOf c [] .number) (pages (d .store))) (zeroed 4 d) _ n e3 in
+    let e5 = sym (ap (λ (z : Left). z .reply) (bare-recovered d c)) ∙ e4 in
+    let w : wellFormed (pages (d .store)) ≡ true = passed (wellFormed (pages (d .store))) (zeroed 8 d) _ (zeroed-bad 7 d) e5 in
+    record {
+      sized = s;
+      form = f;
+      low = n;
+      well = w;
+      is = need-true (threeSized d) (refused 1 1 d) _ s
+          ∙ given-some (readLog (d .log)) (logOf c []) (zeroed 2 d) _ r
+          ∙ need-true (allFormed 0 (pages (d .store))) (zeroed 3 d) _ f
+          ∙ need-true (noneNewer (stateOf c [] .number) (pages (d .store))) (zeroed 4 d) _ n
+          ∙ bare-recovered d c
+          ∙ need-true (wellFormed (pages (d .store))) (zeroed 8 d) _ w;
+    }
+
+-- ---- a start
+
+-- no page is newer than the log's last record
+newer-at : (last i : ℕ) (pgs : List (List ℕ)) → noneNewer last pgs ≡ true → i < length pgs → number (getD pgs i []) ≤ last
+unfolding noneNewer
+newer-at last i [] e h = absurd (omega arith)
+newer-at last zero (pg ∷ pgs) e h = leb-true (number pg) last (both-1 _ _ e)
+newer-at last (suc i) (pg ∷ pgs) e h = newer-at last i pgs (both-2 _ _ e) (omega arith)
+
+pages-low : (last : ℕ) (w : List ℕ) → noneNewer last (pages w) ≡ true → (p : ℕ) → p < 64 → number (page p w) ≤ last
+pages-low last w e p h = rw (← (getD-pages p w h)) (newer-at last p (pages w) e (omega (arith, length-pages w)))
+
+none-left-bare : (c : Check) → length (todoOf (stateOf c [] .opened)) ≡ 0
+unfolding todoOf atEnd afterAll first
+none-left-bare c = refl
+
+-- pages that the tests have found well formed, and a log of its check record alone
+pub settled-bare : (rs : List (List ℕ)) (w : List ℕ) (c : Check) → length w ≡ 16384 → Bytes w → Stored c [] → allFormed 0 (pages w) ≡ true
+    → noneNewer (stateOf c [] .number) (pages w) ≡ true → wellFormed (pages w) ≡ true → allRecords (pages w) ≡ rs → Settled store (asked rs) w c []
+settled-bare rs w c n b st f low well e =
+    record {
+      formed = record { sized = (n, b); form = λ p h. formed-page p w f h };
+      shape = (st .good, st .fits);
+      low = λ p h. rw (← (number-atEnd (logOf c []))) (pages-low (stateOf c [] .number) w low p h);
+      fine = (well, e);
+      complete = none-left-bare c;
+    }
+
+-- the same pages in work and store, the numbers at the check record's end
+pub live-bare : (rs : List (List ℕ)) (w b : List ℕ) (c : Check) → Settled store (asked rs) w c [] → Live rs (lent 24 24 w w (image c []) b)
+live-bare rs w b c g =
+    record {
+      origin = w;
+      top = c;
+      recs = [];
+      many = 0;
+      reached = Reached.start g;
+      log = refl;
+      numbered = record { used = sym (bare-at c); forced = nothing-forced; among = omega arith };
+    }
+
+pub woken-live : (rs : List (List ℕ)) (d : Lent) (c : Check) → InBytes d → Calls.recover d .reply ≡ 0 → readLog (d .log) ≡ some (logOf c [])
+    → rs ≡ allRecords (pages (Calls.recover d .now .work)) → Live rs (Calls.recover d .now) × (Calls.recover d .now .forced ≡ 24)
+unfolding threeSized pagesSized logSized
+woken-live rs d c b e r q =
+    let f : Found d c = found-of d c r e in
+    let t = all-tail _ _ (f .sized) in
+    let n : length (d .store) ≡ 16384 = eqb-true (length (d .store)) 16384 (all-head _ _ t) in
+    let m : length (d .log) ≡ 8192 = eqb-true (length (d .log)) 8192 (all-head _ _ (all-tail _ _ t)) in
+    let st : Stored c [] = stored-read (d .log) (logOf c []) m (b .log) r in
+    let i : d .log ≡ image c [] = image-read (d .log) (logOf c []) m r in
+    let k : allRecords (pages (d .store)) ≡ rs = sym (q ∙ ap (λ (x : Left). allRecords (pages (x .now .work))) (f .is)) in
+    let g : Settled store (asked rs) (d .store) c [] = settled-bare rs (d .store) c n (b .store) st (f .form) (f .low) (f .well) k in
+    let y : Left = left 0 (0 ∷ []) (lent 24 24 (d .store) (d .store) (image c []) (d .bytes)) in
+    let z : Calls.recover d ≡ y =
+    f .is ∙ ap₂ (λ (a : ℕ) (l : List ℕ). left 0 (0 ∷ []) (lent a a (d .store) (d .store) l (d .bytes))) (bare-at c) i in
+    (subst (λ (x : Left). Live rs (x .now)) (sym z) (live-bare rs (d .store) (d .bytes) c g), ap (λ (x : Left). x .now .forced) z)

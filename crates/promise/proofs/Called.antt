@@ -62,7 +62,7 @@ unfolding given
 by-value {d = d} none k r y v f = live-same (refused k r d) (refused-now k r d) v
 by-value (some a) k r y v f = f a refl
 
-not-there : {A : Type 0} (o : Option A) → not (there o) ≡ true → o ≡ none
+pub not-there : {A : Type 0} (o : Option A) → not (there o) ≡ true → o ≡ none
 unfolding there
 not-there none e = refl
 not-there (some a) e = absurd (false≢true e)
@@ -127,7 +127,7 @@ apply-begin n g w = refl
 
 module _ (rs : List (List ℕ)) (U : UnitLaws store (asked rs)) (d : Lent) (v : Live rs d) where
   -- between two units the work pages are a well-formed tree in form
-  settled : stateOf (v .top) (v .recs) .opened ≡ none → Settled store (asked rs) (d .work) (v .top) (v .recs)
+  pub settled : stateOf (v .top) (v .recs) .opened ≡ none → Settled store (asked rs) (d .work) (v .top) (v .recs)
   settled e = work-settled store (asked rs) (page-laws rs) U (v .reached) (none-left (stateOf (v .top) (v .recs) .opened) e)
 
   -- ---- begin
@@ -210,7 +210,7 @@ module _ (rs : List (List ℕ)) (U : UnitLaws store (asked rs)) (d : Lent) (v : 
       (apply-at (v .top .number + length (v .recs)) (stateOf (v .top) (v .recs) .number) r (d .work) w′ (sym (number-atEnd (logOf (v .top) (v .recs)))) applies)))
 
   -- no unit is open
-  step-none : stateOf (v .top) (v .recs) .opened ≡ none → Calls.step d ≡ refused 0 10 d
+  pub step-none : stateOf (v .top) (v .recs) .opened ≡ none → Calls.step d ≡ refused 0 10 d
   unfolding Calls.step
   step-none e =
       need-true _ (refused 0 1 d) _ (two-sized rs U d v)
@@ -226,16 +226,20 @@ module _ (rs : List (List ℕ)) (U : UnitLaws store (asked rs)) (d : Lent) (v : 
       (subst₂ (λ (a : ℕ) (b : List ℕ). Live rs (lent a (d .forced) w′ (d .store) b (d .bytes))) (sym (at-grown (v .top) (v .recs) r))
       (log-grown r (stored-of rs U h .good)) (live-grown rs U d v r w′ h))
 
+  -- an open unit still lacks records
+  pub open-left : (o : Open) → stateOf (v .top) (v .recs) .opened ≡ some o → (k : ℕ) × (length (todoOf (stateOf (v .top) (v .recs) .opened)) ≡ suc k)
+  open-left o e =
+      let a : Awaits (stateOf (v .top) (v .recs) .unit) o =
+      waits-open (subst (Waits (stateOf (v .top) (v .recs) .unit)) e (sound-atEnd (logOf (v .top) (v .recs)) (stored rs U d v .good) .waits)) in
+      let t : Some (o .todo) = ending-some (a .todo) in
+      (length (t .tail), ap length (todo-of (stateOf (v .top) (v .recs) .opened) o (t .head ∷ t .tail) e (t .is)))
+
   pub step-live : Live rs (Calls.step d .now)
   step-live = by-open (stateOf (v .top) (v .recs) .opened) refl
     where
       by-open : (o : Option Open) → stateOf (v .top) (v .recs) .opened ≡ o → Live rs (Calls.step d .now)
       by-open none e = rw (step-none e) (live-same (refused 0 10 d) (refused-now 0 10 d) v)
-      by-open (some o) e =
-          let a : Awaits (stateOf (v .top) (v .recs) .unit) o =
-          waits-open (subst (Waits (stateOf (v .top) (v .recs) .unit)) e (sound-atEnd (logOf (v .top) (v .recs)) (stored rs U d v .good) .waits)) in
-          let t : Some (o .todo) = ending-some (a .todo) in
-          step-open (length (t .tail)) (ap length (todo-of (stateOf (v .top) (v .recs) .opened) o (t .head ∷ t .tail) e (t .is)))
+      by-open (some o) e = let (k, z) = open-left o e in step-open k z
 
   -- ---- flush, force, checkpoint
 

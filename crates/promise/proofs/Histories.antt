@@ -38,6 +38,7 @@ use Rattle.promise.proofs.Recovering.{recoveredAs, recover-is}
 use Rattle.promise.proofs.Live.{Live, Lost, live-lost, live-room, lost-room, stored-of}
 use Rattle.promise.proofs.Called.{begin-compact-live, begin-order-live, step-live, flush-live, force-live, checkpoint-live, find-live, list-live}
 use Rattle.promise.proofs.Accepted.{open-none, ran, run-calls}
+use Rattle.promise.proofs.Starts.{recover-lengths, woken-live}
 
 -- ---- a unit has 25 steps after its begin record at most
 
@@ -213,3 +214,39 @@ module _ (rs : List (List ℕ)) (U : UnitLaws store (asked rs)) where
         same-work = sym (ap (λ (y : Left). y .now .work) e);
         same-log = sym (ap (λ (y : Left). y .now .log) e);
       }
+
+  -- ---- every state of a history
+
+  data Holds (d : Lent) (forced : ℕ) : Bool → Type 0 where
+    alive : Live rs d → forced ≡ d .forced → Holds d forced true
+    gone : Lost rs d forced → Holds d forced false
+
+  lost-of : {d : Lent} {forced : ℕ} {on : Bool} → Holds d forced on → Lost rs d forced
+  lost-of {d} (alive v e) = subst (Lost rs d) (sym e) (live-lost v)
+  lost-of (gone v) = v
+
+  roomy : {d : Lent} {forced : ℕ} {on : Bool} (b : List ℕ) → Holds d forced on → Holds (lent (d .used) (d .forced) (d .work) (d .store) (d .log) b) forced on
+  roomy b (alive v e) = alive (live-room b v) e
+  roomy b (gone v) = gone (lost-room b v)
+
+  module _ (B : (f g : ℕ) (d : Lent) → Bytes (d .bytes) → Calls.build f g d .reply ≡ 0 → rs ≡ rowsOf 16 (length (d .bytes) / 16) (d .bytes)
+      → Live rs (Calls.build f g d .now) × (24 ≡ Calls.build f g d .now .forced)) where
+    holds : {d : Lent} {forced : ℕ} {on : Bool} → History rs d forced on → Holds d forced on
+    holds (History.built f g d b e r) = let x = B f g d b e r in alive (x .0) (x .1)
+    holds (History.woken d c b e r q) = let x = woken-live rs d c b e r q in alive (x .0) (sym (x .1))
+    holds (History.called {d = d} k h) = alive (does-live k d (live-of (holds h))) refl
+      where
+        live-of : {forced : ℕ} → Holds d forced true → Live rs d
+        live-of (alive v e) = v
+    holds (History.cut {d = d} {d′ = d′} {forced = forced} h x) = gone (cut-lost d d′ forced (lost-of (holds h)) x)
+    holds (History.recovery {d = d} {forced = forced} h e) = alive (recovery-live d forced (lost-of (holds h)) (recover-lengths d e)) refl
+    holds (History.lentRoom b h) = roomy b (holds h)
+
+    pub kept-in : (d : Lent) (forced : ℕ) (on : Bool) → History rs d forced on → threeSized d ≡ true → Kept rs d
+    kept-in d forced on h sized = recovery-kept d forced (lost-of (holds h)) sized
+
+    pub live-in : (d : Lent) (forced : ℕ) → History rs d forced true → Live rs d
+    live-in d forced h = only (holds h)
+      where
+        only : Holds d forced true → Live rs d
+        only (alive v e) = v

@@ -9,5 +9,7 @@ pub mod Recovering
 pub mod Live
 pub mod Called
 pub mod Accepted
-pub mod Histories
 pub mod Starts
+pub mod Histories
+pub mod Rests
+pub mod Replies

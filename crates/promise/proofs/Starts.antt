@@ -47,6 +47,11 @@ zeroed-bad : (r : ℕ) (d : Lent) → zeroed (suc r) d .reply ≡ 0 → ⊥
 unfolding zeroed
 zeroed-bad r d e = omega arith
 
+-- an accepted recovery was lent buffers of the right length
+pub recover-lengths : (d : Lent) → Calls.recover d .reply ≡ 0 → threeSized d ≡ true
+unfolding Calls.recover
+recover-lengths d e = passed (threeSized d) (refused 1 1 d) _ (refused-bad 1 0 d) e
+
 -- ---- what an accepted recovery of a check record alone has found
 
 pub record Found (d : Lent) (c : Check) : Type 0 where

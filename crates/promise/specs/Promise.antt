@@ -8,10 +8,11 @@ use mathlib.Core.Option.{Option, some, none}
 use lib.ListN.{length, take}
 use Rattle.field.specs.Bytes.{Bytes, zeroes}
 use Rattle.page.specs.Page.{rowsOf}
-use Rattle.page.specs.Pages.{pages}
+use Rattle.page.specs.Pages.{page, pages}
 use Rattle.log.specs.Record.{Check, Rec}
 use Rattle.log.specs.Log.{Log, readLog, atEnd, lastForced}
 use Rattle.tree.specs.Tree.{wellFormed, allRecords}
+use Rattle.tree.specs.Answer.{lookUp}
 use Rattle.store.specs.Calls.{Lent, lent, Left, threeSized, logLength, newLog, build, recover, beginCompact, beginOrder, step, flush, force, checkpoint, find, list}
 
 -- ---- calls
@@ -114,3 +115,20 @@ pub record Kept (rs : List (List ℕ)) (d : Lent) : Type 0 where
 abbrev pub Demand3 : Type 0
 Demand3 =
     (rs : List (List ℕ)) (d : Lent) (forced : ℕ) (on : Bool) → History rs d forced on → threeSized d ≡ true → Kept rs d
+
+-- ---- begin and step inside a history
+
+-- log, pages, page changes and tree are never what a call refuses: replies 2, 3, 5 and 8 do not come
+pub record Spared (x : Left) : Type 0 where
+  pub log : x .reply ≡ 2 → ⊥
+  pub form : x .reply ≡ 3 → ⊥
+  pub change : x .reply ≡ 5 → ⊥
+  pub tree : x .reply ≡ 8 → ⊥
+
+-- ---- find
+
+-- find's answer rests on the root, one base page and one leaf: any work pages that agree with w on these three give the same
+pub record Rests (key : ℕ) (w : List ℕ) : Type 0 where
+  pub base : ℕ
+  pub leaf : ℕ
+  pub enough : (w′ : List ℕ) → page 0 w′ ≡ page 0 w → page base w′ ≡ page base w → page leaf w′ ≡ page leaf w → lookUp key w′ ≡ lookUp key w

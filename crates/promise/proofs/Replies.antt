@@ -1,0 +1,114 @@
+-- Inside a history begin and step never refuse the log, a page, a page change or the tree. Assumes nothing but the unit laws, which are
+-- handed in.
+use Prim.Native.Nat.{ℕ, zero, suc, _+_}
+use native.Mathlib.Omega.{arith}
+use mathlib.Core.Path.{_≡_, refl, sym, ap, _∙_, subst}
+use mathlib.Core.Logic.{_⊎_, inl, inr, ⊎-elim}
+use mathlib.Core.Bool.{Bool, true, false, not}
+use mathlib.Core.List.{List, [], _∷_}
+use mathlib.Core.Option.{Option, some, none}
+use lib.ListN.{length}
+use Rattle.field.specs.Test.{need, given, there}
+use Rattle.field.proofs.Test.{need-true, need-false, given-some}
+use Rattle.page.specs.Pages.{pages}
+use Rattle.page.proofs.Pages.{formed-pages}
+use Rattle.log.specs.Record.{Begin}
+use Rattle.log.specs.Log.{Open, State, Log, atEnd}
+use Rattle.unit.specs.Choice.{orderUnit}
+use Rattle.store.specs.Calls.{Lent, Left, left, refused, begun, beginWith, todoOf}
+use Rattle.store.specs.Calls as Calls
+use Rattle.replay.specs.Store.{Settled}
+use Rattle.replay.specs.Laws.{UnitLaws}
+use Rattle.replay.proofs.Theorem.{step-accepted}
+use Rattle.promise.specs.Parts.{logOf, stateOf, store, asked}
+use Rattle.promise.specs.Promise.{Spared}
+use Rattle.promise.proofs.OnPages.{page-laws}
+use Rattle.promise.proofs.Live.{Live, two-sized, known-live}
+use Rattle.promise.proofs.Called.{settled, step-is, step-none, open-left, not-there}
+
+-- a call that was accepted, or refused with another number
+spared-zero : (x : Left) → x .reply ≡ 0 → Spared x
+spared-zero x e = record { log = λ q. omega arith; form = λ q. omega arith; change = λ q. omega arith; tree = λ q. omega arith }
+
+other : (k r : ℕ) (d : Lent) → (r ≡ 2 → ⊥) → (r ≡ 3 → ⊥) → (r ≡ 5 → ⊥) → (r ≡ 8 → ⊥) → Spared (refused k r d)
+unfolding refused
+other k r d a b c e = record { log = a; form = b; change = c; tree = e }
+
+reply-refused : (k r : ℕ) (d : Lent) → refused k r d .reply ≡ r
+unfolding refused
+reply-refused k r d = refl
+
+spared-test : (b : Bool) (x y : Left) → Spared x → Spared y → Spared (need b x y)
+unfolding need
+spared-test true x y h k = k
+spared-test false x y h k = h
+
+spared-value : {A : Type 0} (o : Option A) (x : Left) (f : A → Left) → Spared x → ((a : A) → Spared (f a)) → Spared (given o x f)
+unfolding given
+spared-value none x f h k = h
+spared-value (some a) x f h k = k a
+
+module _ (rs : List (List ℕ)) (U : UnitLaws store (asked rs)) (d : Lent) (v : Live rs d) where
+  r6 : Spared (refused 0 6 d)
+  r6 = other 0 6 d (λ q. omega arith) (λ q. omega arith) (λ q. omega arith) (λ q. omega arith)
+
+  r7 : Spared (refused 0 7 d)
+  r7 = other 0 7 d (λ q. omega arith) (λ q. omega arith) (λ q. omega arith) (λ q. omega arith)
+
+  r9 : Spared (refused 0 9 d)
+  r9 = other 0 9 d (λ q. omega arith) (λ q. omega arith) (λ q. omega arith) (λ q. omega arith)
+
+  r11 : Spared (refused 0 11 d)
+  r11 = other 0 11 d (λ q. omega arith) (λ q. omega arith) (λ q. omega arith) (λ q. omega arith)
+
+  r12 : Spared (refused 0 12 d)
+  r12 = other 0 12 d (λ q. omega arith) (λ q. omega arith) (λ q. omega arith) (λ q. omega arith)
+
+  begun-spared : (g : Begin) → Spared (begun d (stateOf (v .top) (v .recs)) g)
+  unfolding begun
+  begun-spared g = spared-test _ _ _ r6 (spared-test _ _ _ r7 (spared-zero _ refl))
+
+  -- past test 9 the pages are in form and the tree is well formed
+  shut-spared : (choose : ℕ → List (List ℕ) → Option Begin) → (b : Bool) → b ≡ not (there (stateOf (v .top) (v .recs) .opened))
+      → Spared (beginWith d (stateOf (v .top) (v .recs)) choose)
+  unfolding beginWith
+  shut-spared choose false e = rw (need-false _ (refused 0 9 d) _ (sym e)) r9
+  shut-spared choose true e =
+      let s : Settled store (asked rs) (d .work) (v .top) (v .recs) = settled rs U d v (not-there (stateOf (v .top) (v .recs) .opened) (sym e)) in
+      rw (need-true _ (refused 0 9 d) _ (sym e))
+      (rw (need-true _ (refused 0 3 d) _ (formed-pages (d .work) (s .formed .form)))
+      (rw (need-true _ (refused 0 8 d) _ (s .fine .0))
+      (spared-value _ _ _ r11 begun-spared)))
+
+  begin-spared : (choose : ℕ → List (List ℕ) → Option Begin) → Spared (beginWith d (stateOf (v .top) (v .recs)) choose)
+  begin-spared choose = shut-spared choose (not (there (stateOf (v .top) (v .recs) .opened))) refl
+
+  pub begin-compact-spared : (fill : ℕ) → Spared (Calls.beginCompact fill d)
+  unfolding Calls.beginCompact
+  begin-compact-spared fill =
+      rw (need-true _ (refused 0 1 d) _ (two-sized rs U d v))
+      (rw (given-some _ (logOf (v .top) (v .recs)) (refused 0 2 d) _ (known-live rs U d v))
+      (spared-test _ _ _ r12 (begin-spared _)))
+
+  pub begin-order-spared : Spared (Calls.beginOrder d)
+  unfolding Calls.beginOrder
+  begin-order-spared =
+      rw (need-true _ (refused 0 1 d) _ (two-sized rs U d v))
+      (rw (given-some _ (logOf (v .top) (v .recs)) (refused 0 2 d) _ (known-live rs U d v)) (begin-spared orderUnit))
+
+  -- a step is accepted where a unit is open, and there is nothing to do otherwise
+  pub step-replies : (Calls.step d .reply ≡ 0) ⊎ (Calls.step d .reply ≡ 10)
+  step-replies = by-open (stateOf (v .top) (v .recs) .opened) refl
+    where
+      by-open : (o : Option Open) → stateOf (v .top) (v .recs) .opened ≡ o → (Calls.step d .reply ≡ 0) ⊎ (Calls.step d .reply ≡ 10)
+      by-open none e = inr (ap (λ (x : Left). x .reply) (step-none rs U d v e) ∙ reply-refused 0 10 d)
+      by-open (some o) e =
+          let (k, z) = open-left rs U d v o e in
+          let (r, w′, next, applies, fewer) = step-accepted store (asked rs) (page-laws rs) U (v .reached) z in
+          inl (ap (λ (x : Left). x .reply) (step-is rs U d v k r w′ z next applies))
+
+  pub step-spared : Spared (Calls.step d)
+  step-spared =
+      ⊎-elim (λ e. spared-zero (Calls.step d) e)
+      (λ (e : Calls.step d .reply ≡ 10). record { log = λ q. omega arith; form = λ q. omega arith; change = λ q. omega arith; tree = λ q. omega arith })
+      step-replies

@@ -12,3 +12,4 @@ pub mod Compact
 pub mod Entries
 pub mod Pages
 pub mod Step
+pub mod Carry

@@ -13,3 +13,6 @@ pub mod Entries
 pub mod Pages
 pub mod Step
 pub mod Carry
+pub mod Keys
+pub mod Below
+pub mod Formed

@@ -150,7 +150,7 @@ module _ (w : List ℕ) (sound : Sound w) where
   root-into = root-pointing (page 0 w) (root-form (page 0 w) (sound-page 0 w sound (omega arith)))
 
   -- the entries of a base page point to leaf pages
-  base-into : (p : ℕ) → 1 ≤ p → p ≤ 7 → pointing 8 63 (entries (page p w)) ≡ true
+  pub base-into : (p : ℕ) → 1 ≤ p → p ≤ 7 → pointing 8 63 (entries (page p w)) ≡ true
   base-into p h k =
       ⊎-elim
       (λ (e : isEmpty (page p w) ≡ true). rw (rows-empty 8 (page p w) e) (unfold pointing in refl))
@@ -169,10 +169,10 @@ module _ (w : List ℕ) (sound : Sound w) where
   leaves-into = level-into root root-into
 
   -- the rows below entries are those of the state
-  base-under : (e : List ℕ) → 1 ≤ toPage e → toPage e ≤ 7 → baseOf w (toPage e) ≡ ents (rows 8 (under ps e))
+  pub base-under : (e : List ℕ) → 1 ≤ toPage e → toPage e ≤ 7 → baseOf w (toPage e) ≡ ents (rows 8 (under ps e))
   base-under e h k = base-at w (toPage e) h k ∙ ap (λ (pg : List ℕ). ents (rows 8 pg)) (sym (under-page e (omega arith)))
 
-  leaf-under : (e : List ℕ) → 8 ≤ toPage e → toPage e ≤ 63 → leafOf w (toPage e) ≡ rows 16 (under ps e)
+  pub leaf-under : (e : List ℕ) → 8 ≤ toPage e → toPage e ≤ 63 → leafOf w (toPage e) ≡ rows 16 (under ps e)
   leaf-under e h k = leaf-at w (toPage e) h ∙ ap (rows 16) (sym (under-page e (omega arith)))
 
   pub level-ents : (es : List (List ℕ)) → pointing 1 7 es ≡ true → ents (below 8 ps es) ≡ beneath (baseOf w) (ents es)

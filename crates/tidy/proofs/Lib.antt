@@ -16,3 +16,4 @@ pub mod Carry
 pub mod Keys
 pub mod Below
 pub mod Formed
+pub mod Leaves

@@ -17,3 +17,4 @@ pub mod Keys
 pub mod Below
 pub mod Formed
 pub mod Leaves
+pub mod Chosen

@@ -18,3 +18,4 @@ pub mod Below
 pub mod Formed
 pub mod Leaves
 pub mod Chosen
+pub mod Begun

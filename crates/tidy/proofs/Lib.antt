@@ -12,3 +12,10 @@ pub mod Compact
 pub mod Entries
 pub mod Pages
 pub mod Step
+pub mod Carry
+pub mod Keys
+pub mod Below
+pub mod Formed
+pub mod Leaves
+pub mod Chosen
+pub mod Begun

@@ -8,13 +8,13 @@ ghost use Rattle.page.specs.Pages.{pages, allFormed};
 use crate::view;
 
 // A kind of page: its letter, a row's size and mark, and how many rows it has at least and at most.
-pub struct Kind {
-    pub sign: u8,
-    pub size: usize,
-    pub first: u8,
-    pub second: u8,
-    pub least: u16,
-    pub most: u16,
+struct Kind {
+    sign: u8,
+    size: usize,
+    first: u8,
+    second: u8,
+    least: u16,
+    most: u16,
 }
 
 // Whether n rows of sz bytes from the body's start bear the mark a b, with keys that ascend.

@@ -7,7 +7,7 @@ use native.Mathlib.Numerals.{add-one}
 use native.Mathlib.Omega.{arith}
 use mathlib.Core.Path.{_≡_, refl, sym, ap, _∙_, subst}
 use mathlib.Core.Logic.{_⊎_, ⊎-elim}
-use mathlib.Core.List.{List, [], _∷_, _++_, append-assoc}
+use mathlib.Core.List.{List, [], _∷_, _++_, append-assoc, append-nil}
 use lib.ListN.{length, take, drop, getD, set, take-append-drop, length-set, length-append, length-take, length-drop, List·getD-append}
 use lib.Seq.{paste, paste-zero, paste-suc, take-all, sets, sets-eq, ext-getD, drop-drop, length-take-le, getD-append-add, getD-take, getD-drop, take-add, take-length, take-append-le, drop-append-le, take-append-add, drop-append-add, take-at, drop-at}
 use borrow.Rule.Slice.PartMut.{putMid}
@@ -219,6 +219,10 @@ pub put-front : (a b l : List ℕ) → length a ≡ length b → put 0 b (a ++ l
 unfolding put
 put-front a b l e = ap (λ (x : List ℕ). b ++ x) (drop-at a l (0 + length b) (omega arith))
 
+-- a write over the whole
+pub put-whole : (b l : List ℕ) → length b ≡ length l → put 0 b l ≡ b
+put-whole b l e = ap (put 0 b) (sym (append-nil l)) ∙ put-front l b [] (sym e) ∙ append-nil b
+
 pub put-past : (a bs l : List ℕ) (k i : ℕ) → length a ≡ k → put (k + i) bs (a ++ l) ≡ a ++ put i bs l
 unfolding put
 put-past a bs l k i e =
@@ -281,6 +285,11 @@ length-set-of! d i v s e = length-set s i v ∙ e
 pub lent-part : (o n : ℕ) (l : List ℕ) → take (o + n - o) (drop o l) ≡ part o n l
 unfolding part
 lent-part o n l = rw (add-sub-cancel-left o n)
+
+-- a part that is lent and copied over the whole of l
+pub copied-part : (o n : ℕ) (s l : List ℕ) → length l ≡ n → o + n ≤ length s → put 0 (take (o + n - o) (drop o s)) l ≡ part o n s
+copied-part o n s l e h =
+    rw (lent-part o n s) (put-whole (part o n s) l (length-part o n s h ∙ sym e))
 
 pub back-put : (o n : ℕ) (l x : List ℕ) → length x ≡ n → putMid o (o + n - o) l x ≡ put o x l
 unfolding put

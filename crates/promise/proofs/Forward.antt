@@ -135,7 +135,7 @@ works-not v works-in e = let z : _≡_ {A = ℕ} 0 1 = cc in omega arith
 works-not v works-point e = let z : _≡_ {A = ℕ} 0 1 = cc in omega arith
 
 -- after LE nothing is to come
-ending-close : {u : ℕ} (v : ℕ) (x : Step) (xs : List Step) → Ending u (x ∷ xs) → x ≡ close v → xs ≡ []
+pub ending-close : {u : ℕ} (v : ℕ) (x : Step) (xs : List Step) → Ending u (x ∷ xs) → x ≡ close v → xs ≡ []
 ending-close v x xs Ending.last e = refl
 ending-close v x xs (Ending.more w h) e = absurd (works-not v w e)
 
@@ -152,7 +152,7 @@ does-todo o xs (does-close {unit = v}) e h = sym (ending-close v (close v) xs h 
 pub awaits-at : (c : Check) (l : List Rec) (x : Step) (xs : List Step) → Good (logOf c l) → (o : Opened (stateOf c l) x xs) → Awaits (stateOf c l .unit) (o .unit)
 awaits-at c l x xs g o = waits-open (subst (Waits (stateOf c l .unit)) (o .is) (sound-atEnd (logOf c l) g .waits))
 
-follows-does : {u : ℕ} (o : Open) (x : Step) (xs : List Step) (r : Rec) → Follows u (some o) r → o .todo ≡ x ∷ xs → Does (o .did) x r
+pub follows-does : {u : ℕ} (o : Open) (x : Step) (xs : List Step) (r : Rec) → Follows u (some o) r → o .todo ≡ x ∷ xs → Does (o .did) x r
 follows-does o x xs r (goes {x = y} {xs = ys} e d) t = let q : y ≡ x = cc in rw q at d
 
 pub todo-after : (c : Check) (l : List Rec) (x : Step) (xs : List Step) (r : Rec) → Good (logOf c l) → Opened (stateOf c l) x xs → Fits (stateOf c l) r

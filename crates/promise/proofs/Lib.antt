@@ -13,3 +13,4 @@ pub mod Starts
 pub mod Histories
 pub mod Rests
 pub mod Replies
+pub mod OnUnits

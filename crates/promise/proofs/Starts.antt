@@ -108,7 +108,7 @@ newer-at last (suc i) (pg ∷ pgs) e h = newer-at last i pgs (both-2 _ _ e) (ome
 pages-low : (last : ℕ) (w : List ℕ) → noneNewer last (pages w) ≡ true → (p : ℕ) → p < 64 → number (page p w) ≤ last
 pages-low last w e p h = rw (← (getD-pages p w h)) (newer-at last p (pages w) e (omega (arith, length-pages w)))
 
-none-left-bare : (c : Check) → length (todoOf (stateOf c [] .opened)) ≡ 0
+pub none-left-bare : (c : Check) → length (todoOf (stateOf c [] .opened)) ≡ 0
 unfolding todoOf atEnd afterAll first
 none-left-bare c = refl
 

@@ -19,7 +19,8 @@ use Rattle.page.specs.Page.{base, leaf, empty, keyOf, toPage, count, rows, entr
 use Rattle.page.specs.Pages.{page, pages}
 use Rattle.page.proofs.Rows.{Each}
 use Rattle.page.proofs.Made.{Fill, shaped-facts}
-use Rattle.page.proofs.Kept.{base-pointing, length-rows}
+use Rattle.page.proofs.Rows.{length-rows}
+use Rattle.page.proofs.Region.{base-pointing}
 use Rattle.page.proofs.Pages.{length-pages, getD-pages}
 use Rattle.tree.specs.Tree.{under, rootEntries, below, baseEntries, allRecords, pointedOnce, startsAtZero, headed, keysKept, wellFormed}
 use Rattle.tree.specs.Tree as T
@@ -256,8 +257,7 @@ module _ (w : List ℕ) (sound : Sound w) where
   unfolding headed
   heads-to [] h e = tt
   heads-to (r ∷ es) h e =
-      let i : Into 1 7 r es = into 1 7 r es h in
-      (
+      let i : Into 1 7 r es = into 1 7 r es h in (
         ap first (base-under r (i .low) (i .high)) ∙ first-ents (rows 8 (under ps r)) ∙ eqb-true _ _ (both-1 _ _ e),
         heads-to es (i .rest) (both-2 _ _ e),
       )

@@ -16,7 +16,7 @@ use Rattle.field.proofs.Part.{split}
 use Rattle.page.specs.Page.{Kind, count, root, base, leaf, empty, rows, rowsOf, entries, records, shaped, pointing, isRoot, isBase, isLeaf, isEmpty, formed}
 use Rattle.page.specs.Pages.{page, putPage, pages, allFormed}
 use Rattle.page.proofs.Made.{Shaped, shaped-facts, Fill, fit-leaf, fit-base, fit-root}
-use Rattle.page.proofs.Kept.{fill-of}
+use Rattle.page.proofs.Region.{fill-of}
 use Rattle.page.proofs.Pages.{bytes-putPage, length-putPage, page-putPage-same, page-putPage-other, formed-page, formed-putPage}
 use Rattle.tidy.proofs.Model.{Entry, upd, State, state}
 use Rattle.tidy.proofs.Trail.{eq?}

@@ -20,7 +20,8 @@ use Rattle.page.specs.Pages.{page, putPage}
 use Rattle.page.proofs.Rows.{Each, Long, each-append}
 use Rattle.page.proofs.Order.{First, ascend-facts, ascend-of, ascend-append}
 use Rattle.page.proofs.Made.{Fill}
-use Rattle.page.proofs.Kept.{Changed, length-rows, bytes-rows, emptied-kept, appended-kept, redirected-kept, removed-kept, bytes-emptied, bytes-appended, bytes-redirected, bytes-removed}
+use Rattle.page.proofs.Rows.{length-rows}
+use Rattle.page.proofs.Kept.{Changed, bytes-rows, emptied-kept, appended-kept, redirected-kept, removed-kept, bytes-emptied, bytes-appended, bytes-redirected, bytes-removed}
 use Rattle.page.proofs.Pages.{bytes-page}
 use Rattle.log.specs.Record.{out, lengthOf, Rec, LB, LO, LI, LM, LE, kindOf, carried, size}
 use Rattle.log.specs.Plan.{Step, takeOut, bringIn, point, close}
@@ -28,7 +29,7 @@ use Rattle.log.specs.Log.{taken}
 use Rattle.log.proofs.Valid.{Moved}
 use Rattle.unit.specs.Next.{target, change, changedAt, apply, targetOf, pageOf, skipped, lowestTo, nextRec, stepSize, room}
 use Rattle.unit.proofs.Places.{Leafy, Basic, Keeping, no-step, one-more}
-use Rattle.unit.proofs.Changed.{empty-formed, leaf-formed, base-formed}
+use Rattle.page.proofs.Region.{empty-formed, leaf-formed, base-formed}
 use Rattle.tidy.specs.Tidy.{InForm}
 use Rattle.tidy.proofs.Model.{Entry, Ascends, full, upd, redirect, strip, lowest, State, state}
 use Rattle.tidy.proofs.Entries.{ent, ents, lowest-ents, lowest-has, redirect-ents, strip-ents}

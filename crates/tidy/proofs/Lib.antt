@@ -19,3 +19,6 @@ pub mod Formed
 pub mod Leaves
 pub mod Chosen
 pub mod Begun
+pub mod Known
+pub mod Group
+pub mod Theorem

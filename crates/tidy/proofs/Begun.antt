@@ -125,8 +125,7 @@ two-bases p q hp hq = go (eqb p q) refl
         rw (pick-true true (p ∷ []) (p ∷ q ∷ []) refl)
         (within-cons 1 7 p [] (hp .0) (hp .1) (within-nil 1 7), differ-one p, omega arith, omega arith)
     go false e =
-        rw (pick-false false (p ∷ []) (p ∷ q ∷ []) refl)
-        (
+        rw (pick-false false (p ∷ []) (p ∷ q ∷ []) refl) (
           within-cons 1 7 p (q ∷ []) (hp .0) (hp .1) (within-cons 1 7 q [] (hq .0) (hq .1) (within-nil 1 7)),
           differ-two p q (eqb-false p q e),
           omega arith,
@@ -184,8 +183,7 @@ module _ (zs : List Step) (c : ℕ) where
   unfolding gather
   apart-gather [] h once f a = a
   apart-gather (d ∷ ds) h once f a =
-      rw (pick-false (eqb (d .page) c) (gather c (pagesOf ds)) (takeOut (d .page) c ∷ bringIn (d .page) c 1 ∷ gather c (pagesOf ds)) (miss (eqb (d .page) c) _ h))
-      (
+      rw (pick-false (eqb (d .page) c) (gather c (pagesOf ds)) (takeOut (d .page) c ∷ bringIn (d .page) c 1 ∷ gather c (pagesOf ds)) (miss (eqb (d .page) c) _ h)) (
         clear-gather (d .page) ds (omega (arith, once (d .page), hit d)) (f (d .page)),
         (clear-gather c ds (omega arith) (f c), apart-gather ds (omega arith) (λ p. omega (arith, once p)) f a),
       )
@@ -201,8 +199,7 @@ pub apart-new : (q u : ℕ) (x : Entry) (ds : List Entry) (b : ℕ) → x .page 
     → Apart (compactPlan q b (x .page ∷ pagesOf ds) ++ (close u ∷ []))
 apart-new q u x ds b d once none =
     let zs : List Step = point q (x .page) b false ∷ (removals q (pagesOf ds) ++ (close u ∷ [])) in
-    rw (plan-new q (x .page) b (pagesOf ds) (close u ∷ []) d)
-    (
+    rw (plan-new q (x .page) b (pagesOf ds) (close u ∷ []) d) (
       clear-gather zs b (x .page) ds (omega (arith, once (x .page), hit x)) (clear-removals (x .page) q u (pagesOf ds)),
       (
         clear-gather zs b b ds none (clear-removals b q u (pagesOf ds)),

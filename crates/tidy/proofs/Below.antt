@@ -256,8 +256,7 @@ module _ (w : List ℕ) (sound : Sound w) where
   unfolding headed
   heads-to [] h e = tt
   heads-to (r ∷ es) h e =
-      let i : Into 1 7 r es = into 1 7 r es h in
-      (
+      let i : Into 1 7 r es = into 1 7 r es h in (
         ap first (base-under r (i .low) (i .high)) ∙ first-ents (rows 8 (under ps r)) ∙ eqb-true _ _ (both-1 _ _ e),
         heads-to es (i .rest) (both-2 _ _ e),
       )

@@ -95,8 +95,7 @@ lowest-empty low c p (pg ∷ pgs) = go (all (ltb low p ∷ ltb p c ∷ isEmpty p
         ⊎ ((i : ℕ) × (i < suc (length pgs)) × (pick t p (lowestEmpty low c (p + 1) pgs) ≡ p + i) × (low < p + i) × (p + i < c) × (isEmpty (getD (pg ∷ pgs) i []) ≡ true))
     go true q r =
         let q1 = all-tail _ _ q in
-        inr
-        (
+        inr (
           0,
           omega arith,
           pick-true true p (lowestEmpty low c (p + 1) pgs) refl ∙ sym (add-zero p),
@@ -107,8 +106,7 @@ lowest-empty low c p (pg ∷ pgs) = go (all (ltb low p ∷ ltb p c ∷ isEmpty p
     go false q (inl e) = inl (pick-false false p (lowestEmpty low c (p + 1) pgs) refl ∙ e)
     go false q (inr r) =
         let n : p + 1 + r .0 ≡ p + suc (r .0) = omega arith in
-        inr
-        (
+        inr (
           suc (r .0),
           omega (arith, r .1),
           pick-false false p (lowestEmpty low c (p + 1) pgs) refl ∙ r .2 ∙ n,

@@ -48,8 +48,7 @@ module _ (r₁ : List Entry) (e : Entry) (r₂ : List Entry) (xs : List Entry) (
   -- the root points to the base page once
   alone : (pointers (e .page) r₁ ≡ 0) × (pointers (e .page) r₂ ≡ 0)
   alone =
-      let u = tree .upper .pointed (e .page) in
-      (
+      let u = tree .upper .pointed (e .page) in (
         omega (arith, u, hit e, full≤ (s .base (e .page)), pointers-append (e .page) r₁ (e ∷ r₂)),
         omega (arith, u, hit e, full≤ (s .base (e .page)), pointers-append (e .page) r₁ (e ∷ r₂)),
       )
@@ -78,9 +77,13 @@ module _ (r₁ : List Entry) (e : Entry) (r₂ : List Entry) (xs : List Entry) (
   once p =
       let f = tree .lower .pointed p in
       let a = rw (beneath-append (s .base) r₁ (e ∷ r₂)) at f in
-      omega
-      (arith, a, full≤ (s .leaf p), pointers-append p (beneath (s .base) r₁) (s .base (e .page) ++ beneath (s .base) r₂),
-      pointers-append p (s .base (e .page)) (beneath (s .base) r₂))
+      omega (
+        arith,
+        a,
+        full≤ (s .leaf p),
+        pointers-append p (beneath (s .base) r₁) (s .base (e .page) ++ beneath (s .base) r₂),
+        pointers-append p (s .base (e .page)) (beneath (s .base) r₂),
+      )
 
   full-same : (us vs : List Entry) → full (xs ++ x ∷ us) ≡ full (xs ++ x ∷ vs)
   full-same us vs = omega (arith, full-mid xs x us, full-mid xs x vs, full≤ (xs ++ x ∷ us), full≤ (xs ++ x ∷ vs))

@@ -72,9 +72,13 @@ module _ (w : List ℕ) (tidy : Tidy w) (u fill : ℕ) (g : Begin) (c : Compacte
   -- no other root entry points to the base page
   alone : pointers (p .top .page) (p .right) ≡ 0
   alone =
-      omega
-      (arith, tree w tidy .upper .pointed (p .top .page), full≤ (baseOf w (p .top .page)), hit (p .top),
-      ap (pointers (p .top .page)) (p .roots) ∙ pointers-append (p .top .page) (p .left) (p .top ∷ p .right))
+      omega (
+        arith,
+        tree w tidy .upper .pointed (p .top .page),
+        full≤ (baseOf w (p .top .page)),
+        hit (p .top),
+        ap (pointers (p .top .page)) (p .roots) ∙ pointers-append (p .top .page) (p .left) (p .top ∷ p .right),
+      )
 
   joined : Joins (stateOf w) fill sum 7 (p .after)
       (joining fill (p .top .page) sum 7 (map (leafFor (stateOf w) (p .top .page)) (p .after) ++ leavesAll (stateOf w) (p .right)))

@@ -14,7 +14,7 @@ use Rattle.page.specs.Page.{keyOf, rows}
 use Rattle.page.proofs.Rows.{Each}
 use Rattle.tree.specs.Tree.{under, below, lower, keysBetween, keysKept}
 use Rattle.tidy.proofs.Model.{Ascends, marks}
-use Rattle.tidy.proofs.Trail.{bound, back, double} 
+use Rattle.tidy.proofs.Trail.{bound, back, double}
 use Rattle.tidy.proofs.Trail as Trail
 
 module _ (sz : ℕ) (ps : List (List ℕ)) where
@@ -57,8 +57,7 @@ module _ (sz : ℕ) (ps : List (List ℕ)) where
   kept-trail lo [] a p e = tt
   kept-trail lo (r ∷ es) a (Each.cons q p) e =
       let rest : Ascends (2 * suc (keyOf r)) (rowTrail es) = kept-trail (suc (keyOf r)) es (a .1) p (both-2 _ _ e) in
-      let own : Ascends (keyOf r) (map keyOf (rowsUnder r)) = from-first (keyOf r) (rowsUnder r) es (both-1 _ _ e) q in
-      (
+      let own : Ascends (keyOf r) (map keyOf (rowsUnder r)) = from-first (keyOf r) (rowsUnder r) es (both-1 _ _ e) q in (
         omega (arith, a .0),
         join (suc (2 * keyOf r)) (keyOf r) (rowsUnder r) es (double keyOf (keyOf r) (rowsUnder r) own) (both-1 _ _ e)
             (Trail.lower {lo = 2 * suc (keyOf r)} {lo′ = suc (2 * keyOf r)} (rowTrail es) (omega arith) rest),
@@ -91,11 +90,10 @@ module _ (sz : ℕ) (ps : List (List ℕ)) where
   thin : (lo : ℕ) (rs : List (List ℕ)) (t : List ℕ) (us : List (List ℕ)) → ((m : ℕ) → Ascends (2 * m) t → Ascends m (map keyOf us))
       → Ascends (2 * lo) (marks keyOf rs ++ t) → Ascends lo (map keyOf (rs ++ us))
   thin lo [] t us f a = f lo a
-  thin lo (r ∷ rs) t us f a =
-      (
-        omega (arith, a .0),
-        thin (suc (keyOf r)) rs t us f (Trail.lower {lo = suc (2 * keyOf r + 1)} {lo′ = 2 * suc (keyOf r)} (marks keyOf rs ++ t) (omega arith) (a .1)),
-      )
+  thin lo (r ∷ rs) t us f a = (
+    omega (arith, a .0),
+    thin (suc (keyOf r)) rs t us f (Trail.lower {lo = suc (2 * keyOf r + 1)} {lo′ = 2 * suc (keyOf r)} (marks keyOf rs ++ t) (omega arith) (a .1)),
+  )
 
   pub below-ascends : (lo : ℕ) (es : List (List ℕ)) → Ascends (2 * lo) (rowTrail es) → Ascends lo (map keyOf (below sz ps es))
   unfolding below

@@ -30,8 +30,7 @@ module _ {Item : Type 0} (key : Item → ℕ) (f : ℕ → List Item) (pre : Lis
   a-once =
       let h = counts (x .page) in
       let u : pointers (x .page) pre + (1 + (cond (eqb (y .page) (x .page)) 1 0 + pointers (x .page) post)) ≡ full (f (x .page)) =
-      rw (eq-eqb (x .page) (x .page) refl) at h in
-      (
+      rw (eq-eqb (x .page) (x .page) refl) at h in (
         omega (arith, full≤ (f (x .page))),
         omega (arith, full≤ (f (x .page))),
         λ e. let v = rw (eq-eqb (y .page) (x .page) (sym e)) at u in omega (arith, v, full≤ (f (x .page))),

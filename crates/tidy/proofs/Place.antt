@@ -167,11 +167,10 @@ module _ (root : List Entry) (s : State) (t : Tree root s) (x : Entry) (p : ℕ)
 
   -- no other entry points to x's page
   pub x-alone : (pointers (x .page) xs ≡ 0) × (pointers (x .page) ys ≡ 0)
-  x-alone =
-      (
-        omega (arith, in-x, part-of (s .base) (x .page) root p p-in, at-most (x .page)),
-        omega (arith, in-x, part-of (s .base) (x .page) root p p-in, at-most (x .page)),
-      )
+  x-alone = (
+    omega (arith, in-x, part-of (s .base) (x .page) root p p-in, at-most (x .page)),
+    omega (arith, in-x, part-of (s .base) (x .page) root p p-in, at-most (x .page)),
+  )
 
   pub only : (i : ℕ) → i ≢ p → All (λ e. e .page ≢ x .page) (s .base i)
   only i d =

@@ -142,8 +142,7 @@ module _ (n : ℕ) (did : List Rec) (xs : List Step) (w : List ℕ) (l : ℕ →
       let lf : isLeaf pg ≡ true = is-leaf p h f in
       let pg′ : List ℕ = made (empty .sign) n (spare pg) [] in
       let made-so : emptied n (l p) pg ≡ some pg′ = when-true _ pg′ (both-intro _ _ lf (eq-same _ _ (ap joined (sym e)))) in
-      let k : Changed empty n [] pg′ = emptied-kept n (l p) pg pg′ made-so few in
-      (
+      let k : Changed empty n [] pg′ = emptied-kept n (l p) pg pg′ made-so few in (
         record {
           now = putPage p pg′ w;
           form = sound-page p w (sh .sound) small;

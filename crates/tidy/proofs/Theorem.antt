@@ -86,9 +86,13 @@ module _ (w : List ℕ) (tidy : Tidy w) where
 
     once : (p : ℕ) → pointers p (x ∷ ds) ≤ 1
     once p =
-        omega
-        (arith, pointed-once w tidy p, part-of (s .base) p root (e .page) (p-in root s (tree w tidy) x (e .page) xs (ds ++ ys) here),
-        ap (pointers p) here ∙ pointers-append p xs (x ∷ (ds ++ ys)), pointers-append p ds ys)
+        omega (
+          arith,
+          pointed-once w tidy p,
+          part-of (s .base) p root (e .page) (p-in root s (tree w tidy) x (e .page) xs (ds ++ ys) here),
+          ap (pointers p) here ∙ pointers-append p xs (x ∷ (ds ++ ys)),
+          pointers-append p ds ys,
+        )
 
     tree-here : Tree (r₁ ++ e ∷ r₂) s
     tree-here = subst (λ (r : List Entry). Tree r s) roots (tree w tidy)
@@ -110,10 +114,14 @@ module _ (w : List ℕ) (tidy : Tidy w) where
     new-place d hd apart clear few =
         let q = plan-compact u fill (e .page) (pagesOf (x ∷ ds)) d in
         let zero-to : pointers d (x ∷ ds) ≡ 0 =
-        omega
-        (arith, tree w tidy .lower .pointed d, ap full clear,
-        part-of (s .base) d root (e .page) (p-in root s (tree w tidy) x (e .page) xs (ds ++ ys) here),
-        ap (pointers d) here ∙ pointers-append d xs (x ∷ (ds ++ ys)), pointers-append d ds ys) in
+        omega (
+          arith,
+          tree w tidy .lower .pointed d,
+          ap full clear,
+          part-of (s .base) d root (e .page) (p-in root s (tree w tidy) x (e .page) xs (ds ++ ys) here),
+          ap (pointers d) here ∙ pointers-append d xs (x ∷ (ds ++ ys)),
+          pointers-append d ds ys,
+        ) in
         finish w tidy n (compactBegin u fill (e .page) (pagesOf (x ∷ ds)) d)
         (compact-ok u fill (e .page) x ds d hu f1 f15 basic leafy once l1 l7 hd (inr (listed-none d (x ∷ ds) zero-to)))
         (rw q (apart-new (e .page) u x ds d apart once (omega arith))) few

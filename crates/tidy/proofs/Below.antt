@@ -23,10 +23,11 @@ use Rattle.page.proofs.Kept.{base-pointing, length-rows}
 use Rattle.page.proofs.Pages.{length-pages, getD-pages}
 use Rattle.tree.specs.Tree.{under, rootEntries, below, baseEntries, allRecords, pointedOnce, startsAtZero, headed, keysKept, wellFormed}
 use Rattle.tree.specs.Tree as T
+use Rattle.tidy.specs.Tidy.{Sound}
 use Rattle.tidy.proofs.Model.{Entry, Ascends, pointers, full, marks, trail, Well, beneath, State, state, Tree, level, contents, Heads, first, entry-key, All}
 use Rattle.tidy.proofs.Trail.{pointers-append, miss}
 use Rattle.tidy.proofs.Entries.{ent, ents, pointers-ents, ascend-keys}
-use Rattle.tidy.proofs.Pages.{Sound, sound-page, leafOf, baseOf, rootOf, leaf-at, leaf-not, base-at, base-not, page-past, root-form, leaf-form, base-form, rows-empty, leaf-rows, base-rows, root-rows, root-pointing}
+use Rattle.tidy.proofs.Pages.{sound-page, leafOf, baseOf, rootOf, leaf-at, leaf-not, base-at, base-not, page-past, root-form, leaf-form, base-form, rows-empty, leaf-rows, base-rows, root-rows, root-pointing}
 use Rattle.tidy.proofs.Keys.{rowsUnder, rowTrail, kept-trail, trail-kept, below-ascends}
 
 -- ---- entries that point into a region

@@ -38,7 +38,7 @@ one-step : {n : ℕ} {did : List Rec} {x : Step} {xs : List Step} {w : List ℕ}
 one-step st c =
     record {
       after = c .after;
-      carried-out = Carried.step (st .form) (st .next) (st .applied) (st .counted) (st .left) (c .carried-out);
+      carried-out = Carried.step (st .form) (st .next) (st .applied) (st .counted) (st .left) (st .shows .sound) (c .carried-out);
       shows = c .shows;
       top = c .top ∙ st .top;
     }

@@ -17,10 +17,11 @@ use Rattle.page.specs.Pages.{page, pages}
 use Rattle.page.proofs.Pages.{length-pages, getD-pages}
 use Rattle.tree.specs.Tree.{rootEntries, below, baseEntries, allRecords, pointedOnce, startsAtZero, headed, keysKept, wellFormed}
 use Rattle.tree.specs.Tree as T
+use Rattle.tidy.specs.Tidy.{Sound}
 use Rattle.tidy.proofs.Model.{Entry, Ascends, pointers, full, trail, beneath, State, state, Tree, level, contents, entry-key}
 use Rattle.tidy.proofs.Trail.{pointers-append}
 use Rattle.tidy.proofs.Entries.{ent, ents, pointers-ents, ascend-keys}
-use Rattle.tidy.proofs.Pages.{Sound, sound-page, leafOf, baseOf, rootOf, leaf-at, leaf-not, base-not, page-past, root-form, root-rows}
+use Rattle.tidy.proofs.Pages.{sound-page, leafOf, baseOf, rootOf, leaf-at, leaf-not, base-not, page-past, root-form, root-rows}
 use Rattle.tidy.proofs.Step.{Shows}
 use Rattle.tidy.proofs.Keys.{rowTrail, kept-trail, trail-kept, below-ascends}
 use Rattle.tidy.proofs.Below.{outside, once-at, once-all, zero-to, zero-of, root, leaves, root-is, level-is, root-into, leaves-into, level-ents, records-beneath, trail-base, trail-leaf, bases-asc, leaves-asc, full-base, full-leaf, heads-to, heads-of}

@@ -18,13 +18,13 @@ use Rattle.log.specs.Plan.{plan}
 use Rattle.log.specs.Log.{beginOk}
 use Rattle.tree.specs.Tree.{allRecords}
 use Rattle.unit.proofs.Places.{Leafy, Basic, plan-keeps}
-use Rattle.tidy.specs.Tidy.{Tidy, Keeps}
+use Rattle.tidy.specs.Tidy.{Sound, Tidy, Keeps}
 use Rattle.tidy.proofs.Model.{Entry, pointers, full, beneath, State, Tree, level, contents, All}
 use Rattle.tidy.proofs.Trail.{eq?, hit, full≤, pointers-append, nothing}
 use Rattle.tidy.proofs.Run.{Kept}
 use Rattle.tidy.proofs.Place.{all-join, part-of}
 use Rattle.tidy.proofs.Entries.{ents, pointing-ents}
-use Rattle.tidy.proofs.Pages.{Sound, sound-page, leafOf, baseOf, rootOf, leaf-at, leaf-not, base-at, page-past, leaf-form, leaf-rows, rows-empty}
+use Rattle.tidy.proofs.Pages.{sound-page, leafOf, baseOf, rootOf, leaf-at, leaf-not, base-at, page-past, leaf-form, leaf-rows, rows-empty}
 use Rattle.tidy.proofs.Step.{Shows}
 use Rattle.tidy.proofs.Carry.{Apart, Carries, carry}
 use Rattle.tidy.proofs.Below.{root-into, base-into}

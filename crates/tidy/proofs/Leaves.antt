@@ -15,10 +15,11 @@ use Rattle.page.specs.Page.{keyOf, toPage, rows, entries, records, pointing}
 use Rattle.page.specs.Pages.{page, pages}
 use Rattle.tree.specs.Tree.{under, rootEntries, Leaf, leafAt, leavesUnder, leavesBelow, leavesOf}
 use Rattle.unit.specs.Choice.{baseOf}
+use Rattle.tidy.specs.Tidy.{Sound}
 use Rattle.tidy.proofs.Model.{Entry, pointers, beneath, State, level}
 use Rattle.tidy.proofs.Trail.{eq?, pointers-append, miss}
 use Rattle.tidy.proofs.Entries.{ent, ents}
-use Rattle.tidy.proofs.Pages.{Sound, rootOf}
+use Rattle.tidy.proofs.Pages.{rootOf}
 use Rattle.tidy.proofs.Below.{Into, into, root-is, root-into, under-page, base-into, base-under, leaf-under}
 use Rattle.tidy.proofs.Formed.{stateOf}
 

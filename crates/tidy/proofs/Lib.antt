@@ -11,6 +11,7 @@ pub mod Gather
 pub mod Compact
 pub mod Entries
 pub mod Pages
+pub mod Next
 pub mod Step
 pub mod Carry
 pub mod Keys

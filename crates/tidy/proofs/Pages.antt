@@ -18,6 +18,7 @@ use Rattle.page.specs.Pages.{page, putPage, pages, allFormed}
 use Rattle.page.proofs.Made.{Shaped, shaped-facts, Fill, fit-leaf, fit-base, fit-root}
 use Rattle.page.proofs.Kept.{fill-of}
 use Rattle.page.proofs.Pages.{bytes-putPage, length-putPage, page-putPage-same, page-putPage-other, formed-page, formed-putPage}
+use Rattle.tidy.specs.Tidy.{Sound}
 use Rattle.tidy.proofs.Model.{Entry, upd, State, state}
 use Rattle.tidy.proofs.Trail.{eq?}
 use Rattle.tidy.proofs.Entries.{ent, ents}
@@ -69,11 +70,6 @@ unfolding isRoot
 root-pointing pg e = both-2 _ _ e
 
 -- ---- 64 pages of bytes in form
-
-pub record Sound (w : List ℕ) : Type 0 where
-  pub whole : length w ≡ 16384
-  pub bytes : Bytes w
-  pub form : allFormed 0 (pages w) ≡ true
 
 pub sound-page : (p : ℕ) (w : List ℕ) → Sound w → p < 64 → formed p (page p w) ≡ true
 sound-page p w h k = formed-page p w (h .form) k

@@ -29,10 +29,10 @@ use Rattle.log.proofs.Valid.{Moved}
 use Rattle.unit.specs.Next.{target, change, changedAt, apply, targetOf, pageOf, skipped, lowestTo, nextRec, stepSize, room}
 use Rattle.unit.proofs.Places.{Leafy, Basic, Keeping, no-step, one-more}
 use Rattle.unit.proofs.Changed.{empty-formed, leaf-formed, base-formed}
-use Rattle.tidy.specs.Tidy.{InForm}
+use Rattle.tidy.specs.Tidy.{Sound, InForm}
 use Rattle.tidy.proofs.Model.{Entry, Ascends, full, upd, redirect, strip, lowest, State, state}
 use Rattle.tidy.proofs.Entries.{ent, ents, lowest-ents, lowest-has, redirect-ents, strip-ents}
-use Rattle.tidy.proofs.Pages.{Sound, sound-page, sound-put, page-other, leafOf, baseOf, leaf-at, base-at, leaf-form, base-form, leaf-rows, base-rows, rows-empty, put-leaf, put-leaf-base, put-base, put-base-leaf, put-root}
+use Rattle.tidy.proofs.Pages.{sound-page, sound-put, page-other, leafOf, baseOf, leaf-at, base-at, leaf-form, base-form, leaf-rows, base-rows, rows-empty, put-leaf, put-leaf-base, put-base, put-base-leaf, put-root}
 
 -- the pages w show the tree s
 pub record Shows (w : List ℕ) (s : State) : Type 0 where

@@ -22,7 +22,7 @@ use Rattle.tree.specs.Tree.{Leaf, leavesOf}
 use Rattle.unit.specs.Choice.{fillOf, group, lowestEmpty, compactOf, compactUnit, place, moveOf, swapOf, putInOrder, orderUnit, oneOrTwo}
 use Rattle.unit.specs.Choice as Choice
 use Rattle.unit.proofs.Places.{Leafy, Basic}
-use Rattle.tidy.specs.Tidy.{Tidy, Keeps}
+use Rattle.tidy.specs.Tidy.{Tidy, Keeps, CompactKeeps, OrderKeeps}
 use Rattle.tidy.proofs.Model.{Entry, pointers, full, weight, State, Tree, level, All}
 use Rattle.tidy.proofs.Trail.{eq?, pointers-append, hit, full≤}
 use Rattle.tidy.proofs.Run.{Kept}
@@ -128,9 +128,9 @@ module _ (w : List ℕ) (tidy : Tidy w) where
         (rw q (kept-back _ (compact-new r₁ e r₂ xs x ds ys s tree-here here d clear u apart (omega (arith, hd .0)) fits)))
 
   -- every unit that begin compact chooses
-  pub compact-keeps : (n u fill : ℕ) (lk : Option ℕ) (g : Begin) → u ≤ most4 → fill ≤ 15 → compactUnit u fill lk (pages w) ≡ some g
+  by-compact : (n u fill : ℕ) (lk : Option ℕ) (g : Begin) → u ≤ most4 → fill ≤ 15 → compactUnit u fill lk (pages w) ≡ some g
       → n + length (plan g) ≤ 4294967296 → Keeps n g w
-  compact-keeps n u fill lk g hu hf chosen few =
+  by-compact n u fill lk g hu hf chosen few =
       let c = grouped w tidy u fill lk g hf chosen in
       subst (λ (h : Begin). Keeps n h w) (sym (c .is)) (by-dest c (subst (λ (h : Begin). n + length (plan h) ≤ 4294967296) (c .is) few) (lowest-empty (c .low) (c .entry .page) 0 (pages w)))
     where
@@ -253,6 +253,14 @@ module _ (w : List ℕ) (tidy : Tidy w) where
         by-test false e = to-held e
 
   -- every unit that begin order chooses
-  pub order-keeps : (n u : ℕ) (g : Begin) → u ≤ most4 → orderUnit u (pages w) ≡ some g → n + length (plan g) ≤ 4294967296 → Keeps n g w
+  by-order : (n u : ℕ) (g : Begin) → u ≤ most4 → orderUnit u (pages w) ≡ some g → n + length (plan g) ≤ 4294967296 → Keeps n g w
   unfolding orderUnit
-  order-keeps n u g hu chosen few = in-order n u g hu few (ordered u (pages w) (leavesOf (pages w)) 0 (leavesOf (pages w)) g chosen)
+  by-order n u g hu chosen few = in-order n u g hu few (ordered u (pages w) (leavesOf (pages w)) 0 (leavesOf (pages w)) g chosen)
+
+-- ---- the theorem
+
+pub compact-keeps : CompactKeeps
+compact-keeps w tidy n unit fill lk g hu hf chosen few = by-compact w tidy n unit fill lk g hu hf chosen few
+
+pub order-keeps : OrderKeeps
+order-keeps w tidy n unit g hu chosen few = by-order w tidy n unit g hu chosen few

@@ -1,22 +1,21 @@
 -- The group that begin compact takes: entries that stand one after the other in one base page, two to eight, with no more records than the fill.
 -- Assumes nothing.
-use Prim.Native.Nat.{ℕ, zero, suc, _+_, _≤_, _<_}
+use Prim.Native.Nat.{ℕ, _+_, _≤_}
 use native.Mathlib.Omega.{arith}
-use mathlib.Core.Path.{_≡_, refl, sym, ap, ap₂, _∙_}
-use mathlib.Core.Logic.{_≢_, _⊎_, inl, inr, ⊎-elim}
+use mathlib.Core.Path.{_≡_, sym, ap, ap₂, _∙_}
+use mathlib.Core.Logic.{_≢_, ⊎-elim}
 use mathlib.Core.List.{List, [], _∷_, _++_, map}
-use mathlib.Core.Option.{Option, none, some}
+use mathlib.Core.Option.{Option, some}
 use borrow.Author.Tests.{eq-eqb, ne-eqb}
 use lib.Dec.{eqb}
 use lib.ListN.{length, length-map}
-use Rattle.field.specs.Test.{pick}
 use Rattle.field.proofs.Test.{pick-true, pick-false}
 use Rattle.page.specs.Pages.{pages}
 use Rattle.log.specs.Record.{Begin}
 use Rattle.tree.specs.Tree.{Leaf, leavesOf}
 use Rattle.unit.specs.Choice.{fillOf, joining, group, lowestEmpty, compactOf, compactUnit}
 use Rattle.tidy.specs.Tidy.{Tidy}
-use Rattle.tidy.proofs.Model.{Entry, pointers, weight, State}
+use Rattle.tidy.proofs.Model.{Entry, pointers, weight}
 use Rattle.tidy.proofs.Trail.{eq?, pointers-append, hit, full≤}
 use Rattle.tidy.proofs.Gather.{pagesOf}
 use Rattle.tidy.proofs.Pages.{leafOf, baseOf, rootOf}

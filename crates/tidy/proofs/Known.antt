@@ -3,30 +3,28 @@
 use Prim.Native.Nat.{ℕ, zero, suc, _+_, _≤_, _<_}
 use native.Mathlib.Omega.{arith}
 use mathlib.Core.Path.{_≡_, refl, sym, ap, ap₂, _∙_, subst}
-use mathlib.Core.Logic.{_≢_, _⊎_, inl, inr, ⊎-elim}
-use mathlib.Core.Bool.{Bool, true, false, cond}
-use mathlib.Core.List.{List, [], _∷_, _++_, map}
-use borrow.Author.Tests.{eq-eqb, ne-eqb}
-use lib.Dec.{eqb}
+use mathlib.Core.Logic.{_≢_, ⊎-elim}
+use mathlib.Core.Bool.{true}
+use mathlib.Core.List.{List, [], _∷_}
+use borrow.Author.Tests.{eq-eqb}
 use lib.ListN.{length}
 use Rattle.field.specs.Bytes.{le2}
 use Rattle.field.proofs.Part.{split}
 use Rattle.page.specs.Page.{count, rows, rowsOf, entries, records, isLeaf, isEmpty}
-use Rattle.page.specs.Pages.{page, pages}
+use Rattle.page.specs.Pages.{page}
 use Rattle.log.specs.Record.{Begin}
 use Rattle.log.specs.Plan.{plan}
 use Rattle.log.specs.Log.{beginOk}
-use Rattle.tree.specs.Tree.{allRecords}
 use Rattle.unit.proofs.Places.{Leafy, Basic, plan-keeps}
 use Rattle.tidy.specs.Tidy.{Sound, Tidy, Keeps}
-use Rattle.tidy.proofs.Model.{Entry, pointers, full, beneath, State, Tree, level, contents, All}
-use Rattle.tidy.proofs.Trail.{eq?, hit, full≤, pointers-append, nothing}
+use Rattle.tidy.proofs.Model.{Entry, pointers, beneath, State, Tree, level, contents, All}
+use Rattle.tidy.proofs.Trail.{eq?, full≤}
 use Rattle.tidy.proofs.Run.{Kept}
-use Rattle.tidy.proofs.Place.{all-join, part-of}
+use Rattle.tidy.proofs.Place.{all-join}
 use Rattle.tidy.proofs.Entries.{ents, pointing-ents}
 use Rattle.tidy.proofs.Pages.{sound-page, leafOf, baseOf, rootOf, leaf-at, leaf-not, base-at, page-past, leaf-form, leaf-rows, rows-empty}
 use Rattle.tidy.proofs.Step.{Shows}
-use Rattle.tidy.proofs.Carry.{Apart, Carries, carry}
+use Rattle.tidy.proofs.Carry.{Apart, carry}
 use Rattle.tidy.proofs.Below.{root-into, base-into}
 use Rattle.tidy.proofs.Formed.{stateOf, to-tree, from-tree, records-of, shown-state}
 

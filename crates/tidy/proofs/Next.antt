@@ -1,20 +1,20 @@
 -- The record that a step finds does the step, so that a log in form stays in form. Assumes nothing.
-use Prim.Native.Nat.{ℕ, zero, suc, _+_, _≤_, _<_}
+use Prim.Native.Nat.{ℕ, _≤_}
 use native.Mathlib.Omega.{arith}
-use mathlib.Core.Path.{_≡_, refl, sym, _∙_}
+use mathlib.Core.Path.{_≡_, refl}
 use mathlib.Core.Bool.{Bool, true, false}
-use mathlib.Core.List.{List, [], _∷_}
-use mathlib.Core.Option.{Option, none, some, Option·some-injective}
+use mathlib.Core.List.{List}
+use mathlib.Core.Option.{Option, some, Option·some-injective}
 use lib.Dec.{eqb}
 use Rattle.field.specs.Test.{both, pick}
 use Rattle.field.specs.Bytes.{Bytes, most4}
 use Rattle.field.proofs.Test.{when-some, bind-some}
 use Rattle.field.proofs.Number.{le4-small}
-use Rattle.page.specs.Page.{keyOf, toPage, leaf, entries, records}
+use Rattle.page.specs.Page.{keyOf, toPage, leaf, records}
 use Rattle.page.proofs.Rows.{Each}
 use Rattle.page.proofs.Made.{Fill}
 use Rattle.page.proofs.Kept.{bytes-rows}
-use Rattle.log.specs.Record.{Rec, LO, LI, LM, LE}
+use Rattle.log.specs.Record.{Rec}
 use Rattle.log.specs.Plan.{Step, takeOut, bringIn, point, close}
 use Rattle.log.proofs.Valid.{Does, does-out, does-in, does-point, does-close}
 use Rattle.unit.specs.Next.{isOther, lowestTo, skipped, nextRec}

@@ -1,32 +1,31 @@
 -- The tree half of demand 3: every unit that begin chooses on a well-formed tree can be carried out to its end, each step accepted, and leaves
 -- a well-formed tree with the same records. Assumes nothing.
-use Prim.Native.Nat.{ℕ, zero, suc, _+_, _≤_, _<_}
+use Prim.Native.Nat.{ℕ, _+_, _≤_, _<_}
 use native.Mathlib.Omega.{arith}
-use mathlib.Core.Path.{_≡_, refl, sym, ap, ap₂, _∙_, subst}
-use mathlib.Core.Logic.{_≢_, _⊎_, inl, inr, ⊎-elim}
-use mathlib.Core.Bool.{Bool, true, false, cond}
-use mathlib.Core.List.{List, [], _∷_, _++_, map}
-use mathlib.Core.Option.{Option, none, some}
+use mathlib.Core.Path.{_≡_, refl, sym, ap, _∙_, subst}
+use mathlib.Core.Logic.{_≢_, _⊎_, inl, inr}
+use mathlib.Core.Bool.{Bool, true, false}
+use mathlib.Core.List.{List, [], _∷_, _++_}
+use mathlib.Core.Option.{Option, some}
 use borrow.Author.Tests.{eq-eqb, ne-eqb}
 use lib.Dec.{eqb}
-use lib.ListN.{length, getD, length-append, length-map}
-use Rattle.field.specs.Test.{pick}
+use lib.ListN.{length, getD, length-append}
 use Rattle.field.specs.Bytes.{most4}
 use Rattle.field.proofs.Test.{pick-true, pick-false}
 use Rattle.page.specs.Page.{isEmpty}
 use Rattle.page.specs.Pages.{page, pages}
-use Rattle.page.proofs.Pages.{length-pages, getD-pages}
+use Rattle.page.proofs.Pages.{getD-pages}
 use Rattle.log.specs.Record.{Begin}
 use Rattle.log.specs.Plan.{Step, close, compactPlan, movePlan, swapPlan, plan}
 use Rattle.tree.specs.Tree.{Leaf, leavesOf}
-use Rattle.unit.specs.Choice.{fillOf, group, lowestEmpty, compactOf, compactUnit, place, moveOf, swapOf, putInOrder, orderUnit, oneOrTwo}
+use Rattle.unit.specs.Choice.{lowestEmpty, compactUnit, place, moveOf, swapOf, putInOrder, orderUnit, oneOrTwo}
 use Rattle.unit.specs.Choice as Choice
 use Rattle.unit.proofs.Places.{Leafy, Basic}
 use Rattle.tidy.specs.Tidy.{Tidy, Keeps, CompactKeeps, OrderKeeps}
-use Rattle.tidy.proofs.Model.{Entry, pointers, full, weight, State, Tree, level, All}
-use Rattle.tidy.proofs.Trail.{eq?, pointers-append, hit, full≤}
+use Rattle.tidy.proofs.Model.{Entry, pointers, full, weight, State, Tree, All}
+use Rattle.tidy.proofs.Trail.{pointers-append}
 use Rattle.tidy.proofs.Run.{Kept}
-use Rattle.tidy.proofs.Place.{all-front, all-back, part-of, p-in, never}
+use Rattle.tidy.proofs.Place.{all-front, all-back, part-of, p-in}
 use Rattle.tidy.proofs.Move.{move}
 use Rattle.tidy.proofs.Swap.{swap}
 use Rattle.tidy.proofs.Gather.{pagesOf}
@@ -34,7 +33,7 @@ use Rattle.tidy.proofs.Compact.{compact, compact-new}
 use Rattle.tidy.proofs.Pages.{leafOf, baseOf, rootOf}
 use Rattle.tidy.proofs.Below.{full-leaf}
 use Rattle.tidy.proofs.Formed.{stateOf}
-use Rattle.tidy.proofs.Leaves.{leafFor, leavesAll, Spot, spot, length-leaves, standing-all, Standing, stands, leaves-of}
+use Rattle.tidy.proofs.Leaves.{leavesAll, Spot, spot, length-leaves, standing-all, Standing, stands, leaves-of}
 use Rattle.tidy.proofs.Chosen.{lowest-empty, Ordered, ordered}
 use Rattle.tidy.proofs.Group.{Grouped, grouped}
 use Rattle.tidy.proofs.Begun.{compactBegin, moveBegin, swapBegin, compact-ok, move-ok, swap-ok, bases-read, listed-none, apart-compact, apart-new, apart-move, apart-swap}

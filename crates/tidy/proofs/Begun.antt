@@ -1,14 +1,14 @@
 -- The begin records of the units are in form, and none of their steps takes out a page that was changed before. Assumes nothing.
-use Prim.Native.Nat.{ℕ, zero, suc, _+_, _≤_, _<_}
+use Prim.Native.Nat.{ℕ, suc, _≤_}
 use native.Mathlib.Omega.{arith}
-use mathlib.Core.Path.{_≡_, refl, sym, ap, _∙_, subst}
-use mathlib.Core.Logic.{_≢_, _⊎_, inl, inr, ⊎-elim}
-use mathlib.Core.Bool.{Bool, true, false, not, cond}
-use mathlib.Core.List.{List, [], _∷_, _++_, map}
+use mathlib.Core.Path.{_≡_, refl, sym, ap, _∙_}
+use mathlib.Core.Logic.{_≢_, _⊎_, ⊎-elim}
+use mathlib.Core.Bool.{Bool, true, false, not}
+use mathlib.Core.List.{List, [], _∷_, _++_}
 use borrow.Author.Tests.{eqb-true, eqb-false, eq-eqb, ne-eqb, le-leb}
-use lib.Dec.{eqb, leb}
+use lib.Dec.{eqb}
 use lib.ListN.{length, getD, length-map}
-use Rattle.field.specs.Test.{both, all, pick}
+use Rattle.field.specs.Test.{both, pick}
 use Rattle.field.specs.Bytes.{most4}
 use Rattle.field.proofs.Test.{both-intro, all-intro, all-nil, pick-true, pick-false, pick-second}
 use Rattle.log.specs.Record.{Begin}
@@ -17,7 +17,7 @@ use Rattle.log.specs.Log.{within, listed, differ, compactOk, swapOk, moveOk, ty
 use Rattle.unit.specs.Choice.{oneOrTwo}
 use Rattle.unit.proofs.Places.{Leafy, Basic}
 use Rattle.tidy.proofs.Model.{Entry, pointers, All}
-use Rattle.tidy.proofs.Trail.{eq?, hit, miss}
+use Rattle.tidy.proofs.Trail.{hit, miss}
 use Rattle.tidy.proofs.Gather.{pagesOf}
 use Rattle.tidy.proofs.Compact.{plan-in-place, plan-new}
 use Rattle.tidy.proofs.Step.{Clear}

@@ -5,30 +5,27 @@ use native.Mathlib.Omega.{arith}
 use native.Mathlib.Nat.{add-zero}
 use mathlib.Core.Path.{_≡_, refl, sym, ap, ap₂, _∙_}
 use mathlib.Core.Logic.{_≢_, _⊎_, inl, inr, ⊎-elim}
-use mathlib.Core.Bool.{Bool, true, false, cond, false≢true}
+use mathlib.Core.Bool.{Bool, true, false}
 use mathlib.Core.List.{List, [], _∷_, _++_, map, map-append}
 use borrow.Author.Tests.{eqb-true, eq-eqb, ne-eqb, leb-true}
-use lib.Dec.{eqb, leb}
-use lib.ListN.{length, drop, getD, length-drop}
-use lib.Seq.{getD-drop}
-use Rattle.field.specs.Test.{both, all, pick}
+use lib.ListN.{length, getD}
+use Rattle.field.specs.Test.{pick}
 use Rattle.field.specs.Bytes.{le4}
-use Rattle.field.proofs.Test.{both-1, both-2, both-intro, all-head, all-tail, all-intro, all-nil, pick-true, pick-false}
-use Rattle.field.proofs.Part.{split}
-use Rattle.page.specs.Page.{base, leaf, empty, keyOf, toPage, count, rows, entries, records, pointing, isBase, isLeaf, isEmpty}
+use Rattle.field.proofs.Test.{both-1, both-2, both-intro, pick-true, pick-false}
+use Rattle.page.specs.Page.{empty, keyOf, toPage, count, rows, entries, records, pointing, isBase, isLeaf, isEmpty}
 use Rattle.page.specs.Pages.{page, pages}
 use Rattle.page.proofs.Rows.{Each}
-use Rattle.page.proofs.Made.{Fill, shaped-facts}
+use Rattle.page.proofs.Made.{shaped-facts}
 use Rattle.page.proofs.Rows.{length-rows}
 use Rattle.page.proofs.Region.{base-pointing}
-use Rattle.page.proofs.Pages.{length-pages, getD-pages}
-use Rattle.tree.specs.Tree.{under, rootEntries, below, baseEntries, allRecords, pointedOnce, startsAtZero, headed, keysKept, wellFormed}
+use Rattle.page.proofs.Pages.{getD-pages}
+use Rattle.tree.specs.Tree.{under, rootEntries, below, baseEntries, pointedOnce, startsAtZero, headed}
 use Rattle.tree.specs.Tree as T
-use Rattle.tidy.proofs.Model.{Entry, Ascends, pointers, full, marks, trail, Well, beneath, State, state, Tree, level, contents, Heads, first, entry-key, All}
-use Rattle.tidy.proofs.Trail.{pointers-append, miss}
-use Rattle.tidy.proofs.Entries.{ent, ents, pointers-ents, ascend-keys}
-use Rattle.tidy.proofs.Pages.{Sound, sound-page, leafOf, baseOf, rootOf, leaf-at, leaf-not, base-at, base-not, page-past, root-form, leaf-form, base-form, rows-empty, leaf-rows, base-rows, root-rows, root-pointing}
-use Rattle.tidy.proofs.Keys.{rowsUnder, rowTrail, kept-trail, trail-kept, below-ascends}
+use Rattle.tidy.specs.Tidy.{Sound}
+use Rattle.tidy.proofs.Model.{Entry, Ascends, pointers, full, marks, trail, beneath, Heads, first, entry-key}
+use Rattle.tidy.proofs.Entries.{ent, ents, ascend-keys}
+use Rattle.tidy.proofs.Pages.{sound-page, leafOf, baseOf, leaf-at, base-at, root-form, leaf-form, base-form, rows-empty, leaf-rows, base-rows, root-pointing}
+use Rattle.tidy.proofs.Keys.{rowsUnder, rowTrail}
 
 -- ---- entries that point into a region
 

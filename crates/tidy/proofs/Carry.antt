@@ -1,18 +1,16 @@
 -- A unit that runs over the tree that the pages show is carried out on the pages, which then show the tree after it. Assumes nothing.
-use Prim.Native.Nat.{ℕ, zero, suc, _+_, _≤_, _<_}
+use Prim.Native.Nat.{ℕ, _+_, _≤_}
 use native.Mathlib.Omega.{arith}
-use mathlib.Core.Path.{_≡_, refl, sym, ap, _∙_}
-use mathlib.Core.Logic.{_≢_, _⊎_, inl, inr, ⊎-elim}
-use mathlib.Core.Bool.{Bool, true, false}
-use mathlib.Core.List.{List, [], _∷_, _++_}
-use mathlib.Core.Option.{Option, none, some}
+use mathlib.Core.Path.{_≡_, refl, _∙_}
+use mathlib.Core.Logic.{_⊎_, inl, inr, ⊎-elim}
+use mathlib.Core.List.{List, [], _∷_}
 use lib.ListN.{length}
 use Rattle.page.specs.Pages.{page}
-use Rattle.log.specs.Record.{Rec, LB, LO, LI, LM, LE, kindOf, carried, size}
+use Rattle.log.specs.Record.{Rec, LE, kindOf, carried, size}
 use Rattle.log.specs.Plan.{Step, takeOut, bringIn, point, close}
-use Rattle.unit.specs.Next.{target, changedAt, apply, targetOf, pageOf, nextRec, stepSize, room}
-use Rattle.unit.proofs.Places.{Leafy, StepKeeps, Keeping, no-step, one-more}
-use Rattle.tidy.specs.Tidy.{InForm, Carried}
+use Rattle.unit.specs.Next.{target, changedAt, apply, targetOf, pageOf, nextRec, stepSize}
+use Rattle.unit.proofs.Places.{Leafy, StepKeeps, Keeping, one-more}
+use Rattle.tidy.specs.Tidy.{Carried}
 use Rattle.tidy.proofs.Model.{State}
 use Rattle.tidy.proofs.Run.{Run}
 use Rattle.tidy.proofs.Step.{Shows, AllMoved, Clear, Stepped, base-clear, out-step, in-step, point-step, remove-step}
@@ -38,7 +36,7 @@ one-step : {n : ℕ} {did : List Rec} {x : Step} {xs : List Step} {w : List ℕ}
 one-step st c =
     record {
       after = c .after;
-      carried-out = Carried.step (st .form) (st .next) (st .applied) (st .counted) (st .left) (c .carried-out);
+      carried-out = Carried.step (st .form) (st .next) (st .applied) (st .counted) (st .left) (st .shows .sound) (c .carried-out);
       shows = c .shows;
       top = c .top ∙ st .top;
     }

@@ -1,23 +1,23 @@
 -- What a chosen unit is: the group of a compact is a run of entries of one base page within the fill, its destination the first leaf or an
 -- empty page; the leaf that order takes is misplaced. Assumes nothing.
-use Prim.Native.Nat.{ℕ, zero, suc, _+_, _*_, _≤_, _<_}
+use Prim.Native.Nat.{ℕ, zero, suc, _+_, _≤_, _<_}
 use native.Mathlib.Omega.{arith}
 use native.Mathlib.Nat.{add-zero}
-use mathlib.Core.Path.{_≡_, refl, sym, ap, ap₂, _∙_}
+use mathlib.Core.Path.{_≡_, refl, sym, ap, _∙_}
 use mathlib.Core.Logic.{_≢_, _⊎_, inl, inr, ⊎-elim}
-use mathlib.Core.Bool.{Bool, true, false, cond}
+use mathlib.Core.Bool.{Bool, true, false}
 use mathlib.Core.List.{List, [], _∷_, _++_, map}
 use mathlib.Core.Option.{Option, none, some, Option·some-injective}
-use borrow.Author.Tests.{eqb-true, eqb-false, eq-eqb, ne-eqb, leb-true, leb-false, ltb-true, le-leb}
+use borrow.Author.Tests.{eqb-false, ne-eqb, leb-true, ltb-true}
 use lib.Dec.{eqb, leb, ltb}
 use lib.ListN.{length, getD}
 use Rattle.field.specs.Test.{both, all, pick}
-use Rattle.field.proofs.Test.{both-1, both-2, both-false, all-head, all-tail, pick-true, pick-false}
+use Rattle.field.proofs.Test.{both-2, both-false, all-head, all-tail, pick-true, pick-false}
 use Rattle.page.specs.Page.{isEmpty}
 use Rattle.log.specs.Record.{Begin}
 use Rattle.tree.specs.Tree.{Leaf}
 use Rattle.unit.specs.Choice.{exceeds, joining, group, lowestEmpty, compactOf, larger, chooseCompact, place, putInOrder, chooseOrder}
-use Rattle.tidy.proofs.Model.{Entry, pointers, weight, State, All}
+use Rattle.tidy.proofs.Model.{Entry, pointers, weight, State}
 use Rattle.tidy.proofs.Trail.{miss}
 use Rattle.tidy.proofs.Gather.{pagesOf}
 use Rattle.tidy.proofs.Leaves.{leafFor, leavesAll}

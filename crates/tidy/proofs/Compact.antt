@@ -1,24 +1,22 @@
 -- A compact unit in place, and to a new place, runs to its end and keeps the tree. The new place is a renaming first. Assumes nothing.
-use Prim.Native.Nat.{ℕ, zero, suc, _+_, _*_, _≤_, _<_}
+use Prim.Native.Nat.{ℕ, _+_, _*_, _≤_}
 use native.Mathlib.Omega.{arith}
 use mathlib.Core.Path.{_≡_, refl, sym, ap, _∙_, subst}
-use mathlib.Core.Logic.{_≢_, _⊎_, inl, inr, ⊎-elim}
-use mathlib.Core.Bool.{Bool, true, false, cond}
+use mathlib.Core.Logic.{_≢_, ⊎-elim}
+use mathlib.Core.Bool.{false}
 use mathlib.Core.List.{List, [], _∷_, _++_, map, append-assoc, map-append}
 use borrow.Author.Tests.{eq-eqb, ne-eqb}
-use lib.Dec.{eqb}
-use lib.ListN.{length, getD}
+use lib.ListN.{length}
 use Rattle.field.specs.Test.{pick}
-use Rattle.page.specs.Page.{keyOf}
 use Rattle.log.specs.Plan.{Step, takeOut, bringIn, point, close, gather, removals, others, replacing, compactPlan}
-use Rattle.tidy.proofs.Model.{Entry, pointers, full, marks, trail, Well, beneath, upd, to, exch, State, state, Tree, level, contents, Heads, first, entry-key, weight, All}
+use Rattle.tidy.proofs.Model.{Entry, pointers, full, marks, trail, Well, beneath, upd, to, exch, State, state, Tree, level, contents, Heads, first, entry-key, weight}
 use Rattle.tidy.proofs.Trail.{eq?, drop-many, pointers-append, hit, full≤, full-mid, beneath-append, beneath-but, trail-append, trail-but}
 use Rattle.tidy.proofs.Rename.{exch-a, exch-other, exch-twice, renaming, renamed-tree, renamed-contents}
 use Rattle.tidy.proofs.Run.{Always, Kept, close-on}
 use Rattle.tidy.proofs.Place.{none-points, all-zip, all-front, all-back, x-alone, never}
 use Rattle.tidy.proofs.Move.{map-id, to-at, moved-on, pointed-on}
 use Rattle.tidy.proofs.Swap.{map-mid}
-use Rattle.tidy.proofs.Gather.{pagesOf, Gathers, gathers, removes}
+use Rattle.tidy.proofs.Gather.{pagesOf, gathers, removes}
 
 -- ---- the two plans, written out
 

@@ -1,15 +1,13 @@
 -- The entries of a page as pairs of key and page: what the page changes, the search for an LM's key and the count of pointers do to rows, they
 -- do to pairs. Assumes nothing.
-use Prim.Native.Nat.{ℕ, zero, suc, _+_, _≤_, _<_}
+use Prim.Native.Nat.{ℕ, suc, _+_, _≤_, _<_}
 use native.Mathlib.Omega.{arith}
-use mathlib.Core.Path.{_≡_, refl, sym, ap, ap₂, _∙_}
-use mathlib.Core.Logic.{_⊎_, inl, inr, ⊎-elim}
-use mathlib.Core.Bool.{Bool, true, false, not, cond, false≢true}
-use mathlib.Core.List.{List, [], _∷_, _++_, map}
+use mathlib.Core.Path.{_≡_, refl, ap, ap₂}
+use mathlib.Core.Bool.{Bool, true, false, not, cond}
+use mathlib.Core.List.{List, [], _∷_, map}
 use mathlib.Core.Option.{Option, none, some, Option·some-injective}
 use borrow.Author.Tests.{eqb-true, leb-true}
-use lib.Dec.{eqb, leb}
-use lib.ListN.{length}
+use lib.Dec.{eqb}
 use Rattle.field.specs.Test.{both, pick}
 use Rattle.field.specs.Bytes.{put, bytes2}
 use Rattle.field.proofs.Test.{both-1, both-2, pick-true, pick-second}

@@ -1,10 +1,10 @@
 -- The test of a well-formed tree holds of 64 pages in form just where the tree that they show is well formed; and all records are what
 -- stands below its entries. Assumes nothing.
-use Prim.Native.Nat.{ℕ, zero, suc, _+_, _-_, _*_, _≤_, _<_}
+use Prim.Native.Nat.{ℕ, _+_, _-_, _≤_, _<_}
 use native.Mathlib.Omega.{arith}
-use mathlib.Core.Path.{_≡_, refl, sym, ap, _∙_, subst, fun-ext}
-use mathlib.Core.Logic.{_≢_, _⊎_, inl, inr, ⊎-elim}
-use mathlib.Core.Bool.{Bool, true, false}
+use mathlib.Core.Path.{_≡_, sym, ap, _∙_, fun-ext}
+use mathlib.Core.Logic.{inl, inr}
+use mathlib.Core.Bool.{true}
 use mathlib.Core.List.{List, [], _∷_, _++_, map, map-append}
 use lib.ListN.{length, drop, getD, length-drop}
 use lib.Seq.{getD-drop}
@@ -12,15 +12,16 @@ use Rattle.field.specs.Test.{all, pick}
 use Rattle.field.specs.Bytes.{le2}
 use Rattle.field.proofs.Test.{all-head, all-tail, all-intro, all-nil}
 use Rattle.field.proofs.Part.{split}
-use Rattle.page.specs.Page.{keyOf, count, rows, rowsOf, entries, records, pointing, isEmpty}
+use Rattle.page.specs.Page.{keyOf, count, rows, rowsOf, records, isEmpty}
 use Rattle.page.specs.Pages.{page, pages}
 use Rattle.page.proofs.Pages.{length-pages, getD-pages}
-use Rattle.tree.specs.Tree.{rootEntries, below, baseEntries, allRecords, pointedOnce, startsAtZero, headed, keysKept, wellFormed}
+use Rattle.tree.specs.Tree.{below, allRecords, pointedOnce, startsAtZero, headed, keysKept, wellFormed}
 use Rattle.tree.specs.Tree as T
-use Rattle.tidy.proofs.Model.{Entry, Ascends, pointers, full, trail, beneath, State, state, Tree, level, contents, entry-key}
+use Rattle.tidy.specs.Tidy.{Sound}
+use Rattle.tidy.proofs.Model.{Ascends, pointers, full, beneath, State, state, Tree, level, contents}
 use Rattle.tidy.proofs.Trail.{pointers-append}
 use Rattle.tidy.proofs.Entries.{ent, ents, pointers-ents, ascend-keys}
-use Rattle.tidy.proofs.Pages.{Sound, sound-page, leafOf, baseOf, rootOf, leaf-at, leaf-not, base-not, page-past, root-form, root-rows}
+use Rattle.tidy.proofs.Pages.{sound-page, leafOf, baseOf, rootOf, leaf-at, leaf-not, base-not, page-past, root-form, root-rows}
 use Rattle.tidy.proofs.Step.{Shows}
 use Rattle.tidy.proofs.Keys.{rowTrail, kept-trail, trail-kept, below-ascends}
 use Rattle.tidy.proofs.Below.{outside, once-at, once-all, zero-to, zero-of, root, leaves, root-is, level-is, root-into, leaves-into, level-ents, records-beneath, trail-base, trail-leaf, bases-asc, leaves-asc, full-base, full-leaf, heads-to, heads-of}

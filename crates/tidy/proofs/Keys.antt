@@ -1,14 +1,12 @@
 -- "each key below an entry is at least that entry's key and less than the next one's": the test `keysKept` holds just where the trail of keys
 -- ascends, once over the row size. Assumes nothing.
-use Prim.Native.Nat.{ℕ, zero, suc, _+_, _*_, _≤_, _<_}
+use Prim.Native.Nat.{ℕ, suc, _+_, _*_, _≤_}
 use native.Mathlib.Omega.{arith}
-use mathlib.Core.Path.{_≡_, refl, sym, ap, _∙_}
-use mathlib.Core.Bool.{Bool, true, false}
+use mathlib.Core.Path.{_≡_, refl}
+use mathlib.Core.Bool.{true}
 use mathlib.Core.List.{List, [], _∷_, _++_, map}
 use borrow.Author.Tests.{leb-true, ltb-true, le-leb, lt-ltb}
-use lib.Dec.{leb, ltb}
-use lib.ListN.{length}
-use Rattle.field.specs.Test.{both}
+use lib.Dec.{ltb}
 use Rattle.field.proofs.Test.{both-1, both-2, both-intro}
 use Rattle.page.specs.Page.{keyOf, rows}
 use Rattle.page.proofs.Rows.{Each}

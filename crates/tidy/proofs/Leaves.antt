@@ -1,24 +1,24 @@
 -- The leaves in key order, as the choice of a unit sees them, over the tree that the pages show: each stands where an entry of a base page is.
 -- Assumes nothing.
-use Prim.Native.Nat.{ℕ, zero, suc, _+_, _≤_, _<_}
+use Prim.Native.Nat.{ℕ, _+_, _≤_}
 use native.Mathlib.Omega.{arith}
 use mathlib.Core.Path.{_≡_, refl, sym, ap, ap₂, _∙_}
-use mathlib.Core.Logic.{_≢_, _⊎_, inl, inr, ⊎-elim}
-use mathlib.Core.Bool.{Bool, true, false, cond}
-use mathlib.Core.List.{List, [], _∷_, _++_, map, map-append, append-assoc}
-use borrow.Author.Tests.{eqb-true, eqb-false, eq-eqb, ne-eqb}
+use mathlib.Core.Logic.{_≢_, _⊎_, inl, inr}
+use mathlib.Core.Bool.{true, cond}
+use mathlib.Core.List.{List, [], _∷_, _++_, map, append-assoc}
+use borrow.Author.Tests.{eq-eqb, ne-eqb}
 use lib.Dec.{eqb}
 use lib.ListN.{length, getD, length-append, length-map}
-use Rattle.field.specs.Test.{pick}
 use Rattle.field.proofs.Test.{pick-true, pick-false}
-use Rattle.page.specs.Page.{keyOf, toPage, rows, entries, records, pointing}
+use Rattle.page.specs.Page.{keyOf, toPage, entries, pointing}
 use Rattle.page.specs.Pages.{page, pages}
-use Rattle.tree.specs.Tree.{under, rootEntries, Leaf, leafAt, leavesUnder, leavesBelow, leavesOf}
+use Rattle.tree.specs.Tree.{under, Leaf, leafAt, leavesUnder, leavesBelow, leavesOf}
 use Rattle.unit.specs.Choice.{baseOf}
-use Rattle.tidy.proofs.Model.{Entry, pointers, beneath, State, level}
-use Rattle.tidy.proofs.Trail.{eq?, pointers-append, miss}
+use Rattle.tidy.specs.Tidy.{Sound}
+use Rattle.tidy.proofs.Model.{Entry, pointers, beneath, State}
+use Rattle.tidy.proofs.Trail.{eq?, pointers-append}
 use Rattle.tidy.proofs.Entries.{ent, ents}
-use Rattle.tidy.proofs.Pages.{Sound, rootOf}
+use Rattle.tidy.proofs.Pages.{rootOf}
 use Rattle.tidy.proofs.Below.{Into, into, root-is, root-into, under-page, base-into, base-under, leaf-under}
 use Rattle.tidy.proofs.Formed.{stateOf}
 

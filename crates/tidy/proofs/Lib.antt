@@ -11,6 +11,7 @@ pub mod Gather
 pub mod Compact
 pub mod Entries
 pub mod Pages
+pub mod Next
 pub mod Step
 pub mod Carry
 pub mod Keys
@@ -19,3 +20,6 @@ pub mod Formed
 pub mod Leaves
 pub mod Chosen
 pub mod Begun
+pub mod Known
+pub mod Group
+pub mod Theorem

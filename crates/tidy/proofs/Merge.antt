@@ -1,14 +1,14 @@
 -- Two neighbours merged: the trail loses the second entry's number, what is below stays, and each page is pointed to as it should be.
 -- Assumes nothing.
-use Prim.Native.Nat.{ℕ, zero, suc, _+_, _*_, _≤_}
+use Prim.Native.Nat.{ℕ, _+_, _*_, _≤_}
 use native.Mathlib.Omega.{arith}
-use mathlib.Core.Path.{_≡_, refl, sym, ap, _∙_}
-use mathlib.Core.Logic.{_≢_, _⊎_, inl, inr, ⊎-elim}
-use mathlib.Core.Bool.{Bool, true, false, cond}
-use mathlib.Core.List.{List, [], _∷_, _++_, map, append-assoc, map-append}
+use mathlib.Core.Path.{_≡_, refl, sym, _∙_}
+use mathlib.Core.Logic.{_≢_, ⊎-elim}
+use mathlib.Core.Bool.{cond}
+use mathlib.Core.List.{List, [], _∷_, _++_, append-assoc, map-append}
 use borrow.Author.Tests.{eq-eqb, ne-eqb}
 use lib.Dec.{eqb}
-use Rattle.tidy.proofs.Model.{Entry, Ascends, pointers, full, marks, trail, Well, beneath, merged}
+use Rattle.tidy.proofs.Model.{Entry, pointers, full, marks, trail, Well, beneath, merged}
 use Rattle.tidy.proofs.Trail.{eq?, drop-one, pointers-append, miss, full≤, full-append, trail-append, beneath-append}
 
 module _ {Item : Type 0} (key : Item → ℕ) (f : ℕ → List Item) (a b : ℕ) where

@@ -1,9 +1,9 @@
 -- A tree as functions of the page number: what stands on each leaf page, and the entries of each base page as pairs of key and page. One
 -- predicate, `Well`, says of both levels what document 01 says of a well-formed tree: `trail` lists the keys of entries and of what
 -- is below them in order, and it ascends; a page is pointed to once if it holds something, else never. Assumes nothing.
-use Prim.Native.Nat.{ℕ, zero, suc, _+_, _*_, _≤_}
+use Prim.Native.Nat.{ℕ, suc, _+_, _*_, _≤_}
 use mathlib.Core.Path.{_≡_}
-use mathlib.Core.Bool.{Bool, true, false, cond}
+use mathlib.Core.Bool.{Bool, false, cond}
 use mathlib.Core.List.{List, [], _∷_, _++_, map}
 use mathlib.Core.Option.{Option, none, some}
 use lib.Dec.{eqb}

@@ -1,15 +1,15 @@
 -- A move runs to its end, and leaves the tree with its two pages exchanged: the destination is empty. Assumes nothing.
-use Prim.Native.Nat.{ℕ, zero, suc, _+_, _≤_}
+use Prim.Native.Nat.{ℕ, _≤_}
 use native.Mathlib.Omega.{arith}
 use mathlib.Core.Path.{_≡_, refl, sym, ap, _∙_, subst, fun-ext}
-use mathlib.Core.Logic.{_≢_, _⊎_, inl, inr, ⊎-elim}
+use mathlib.Core.Logic.{_≢_, ⊎-elim}
 use mathlib.Core.Bool.{Bool, true, false, cond}
 use mathlib.Core.List.{List, [], _∷_, _++_, map}
 use borrow.Author.Tests.{eq-eqb, ne-eqb}
 use lib.Dec.{eqb}
 use lib.ListN.{length}
 use Rattle.log.specs.Plan.{Step, movePlan, close}
-use Rattle.tidy.proofs.Model.{Entry, Ascends, full, upd, redirect, to, exch, State, state, Tree, All}
+use Rattle.tidy.proofs.Model.{Entry, full, upd, redirect, to, exch, State, state, Tree, All}
 use Rattle.tidy.proofs.Trail.{eq?}
 use Rattle.tidy.proofs.Rename.{exch-a, exch-other, exch-twice, renaming, renamed-tree, renamed-contents}
 use Rattle.tidy.proofs.Run.{Always, Kept, close-on, pair-on, point-on}

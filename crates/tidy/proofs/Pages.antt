@@ -1,26 +1,27 @@
 -- The state of 64 pages in form: what stands on each leaf page, the entries of each base page, and what a page replaced changes of them.
 -- Assumes nothing.
-use Prim.Native.Nat.{ℕ, zero, suc, _+_, _*_, _≤_, _<_}
+use Prim.Native.Nat.{ℕ, _*_, _≤_, _<_}
 use native.Mathlib.Omega.{arith}
-use mathlib.Core.Path.{_≡_, refl, sym, ap, _∙_}
-use mathlib.Core.Logic.{_≢_, _⊎_, inl, inr, ⊎-elim}
+use mathlib.Core.Path.{_≡_, refl, sym, _∙_}
+use mathlib.Core.Logic.{_≢_, _⊎_, inr, ⊎-elim}
 use mathlib.Core.Bool.{Bool, true, false, cond}
-use mathlib.Core.List.{List, [], _∷_, _++_, map}
+use mathlib.Core.List.{List, []}
 use borrow.Author.Tests.{le-leb, lt-leb, eq-eqb, ne-eqb}
 use lib.Dec.{eqb, leb}
-use lib.ListN.{length, take, drop, drop-of-length-le}
+use lib.ListN.{length, drop-of-length-le}
 use Rattle.field.specs.Test.{pick}
 use Rattle.field.specs.Bytes.{part, Bytes}
 use Rattle.field.proofs.Test.{both-1, both-2, pick-or}
 use Rattle.field.proofs.Part.{split}
-use Rattle.page.specs.Page.{Kind, count, root, base, leaf, empty, rows, rowsOf, entries, records, shaped, pointing, isRoot, isBase, isLeaf, isEmpty, formed}
-use Rattle.page.specs.Pages.{page, putPage, pages, allFormed}
-use Rattle.page.proofs.Made.{Shaped, shaped-facts, Fill, fit-leaf, fit-base, fit-root}
+use Rattle.page.specs.Page.{count, root, base, leaf, empty, rows, rowsOf, entries, records, pointing, isRoot, isBase, isLeaf, isEmpty, formed}
+use Rattle.page.specs.Pages.{page, putPage}
+use Rattle.page.proofs.Made.{shaped-facts, Fill, fit-leaf, fit-base, fit-root}
 use Rattle.page.proofs.Region.{fill-of}
 use Rattle.page.proofs.Pages.{bytes-putPage, length-putPage, page-putPage-same, page-putPage-other, formed-page, formed-putPage}
-use Rattle.tidy.proofs.Model.{Entry, upd, State, state}
+use Rattle.tidy.specs.Tidy.{Sound}
+use Rattle.tidy.proofs.Model.{Entry, upd}
 use Rattle.tidy.proofs.Trail.{eq?}
-use Rattle.tidy.proofs.Entries.{ent, ents}
+use Rattle.tidy.proofs.Entries.{ents}
 
 -- ---- the kinds of page in form
 
@@ -69,11 +70,6 @@ unfolding isRoot
 root-pointing pg e = both-2 _ _ e
 
 -- ---- 64 pages of bytes in form
-
-pub record Sound (w : List ℕ) : Type 0 where
-  pub whole : length w ≡ 16384
-  pub bytes : Bytes w
-  pub form : allFormed 0 (pages w) ≡ true
 
 pub sound-page : (p : ℕ) (w : List ℕ) → Sound w → p < 64 → formed p (page p w) ≡ true
 sound-page p w h k = formed-page p w (h .form) k

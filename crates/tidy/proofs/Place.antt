@@ -1,16 +1,16 @@
 -- What a well-formed tree says of an entry in a base page: no other entry points to its page, its leaf holds records in order, no other entry
 -- has its key, and the LM finds it. Assumes nothing.
-use Prim.Native.Nat.{ℕ, zero, suc, _+_, _*_, _≤_, _<_}
+use Prim.Native.Nat.{ℕ, suc, _+_, _*_, _≤_}
 use native.Mathlib.Omega.{arith}
-use mathlib.Core.Path.{_≡_, refl, sym, ap, _∙_, subst}
+use mathlib.Core.Path.{_≡_, refl, sym, ap, _∙_}
 use mathlib.Core.Logic.{_≢_, _⊎_, inl, inr, ⊎-elim}
-use mathlib.Core.Bool.{Bool, true, false, cond}
+use mathlib.Core.Bool.{true, false}
 use mathlib.Core.List.{List, [], _∷_, _++_, map}
 use mathlib.Core.Option.{Option, none, some}
 use borrow.Author.Tests.{eqb-false, eq-eqb, ne-eqb}
 use lib.Dec.{eqb}
 use Rattle.page.specs.Page.{keyOf}
-use Rattle.tidy.proofs.Model.{Entry, Ascends, pointers, full, marks, trail, Well, beneath, lowest, skips, State, Tree, level, entry-key, All}
+use Rattle.tidy.proofs.Model.{Entry, Ascends, pointers, full, marks, trail, beneath, lowest, skips, State, Tree, level, entry-key, All}
 use Rattle.tidy.proofs.Trail.{eq?, back, pointers-append, hit, miss, full≤, nothing, page-ascends}
 
 -- ---- entries in a list

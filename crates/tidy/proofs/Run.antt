@@ -1,13 +1,13 @@
 -- The steps of a unit over a tree: what each asks and does, and its record. The premises are what reply 5 tests. Assumes nothing.
-use Prim.Native.Nat.{ℕ, zero, suc, _+_, _-_, _≤_}
-use mathlib.Core.Path.{_≡_, refl, sym, ap, _∙_, subst}
-use mathlib.Core.Bool.{Bool, true, false, cond}
+use Prim.Native.Nat.{ℕ, _≤_}
+use mathlib.Core.Path.{_≡_, refl, sym, subst}
+use mathlib.Core.Bool.{Bool, false}
 use mathlib.Core.List.{List, [], _∷_, _++_, map}
-use mathlib.Core.Option.{Option, none, some}
-use lib.ListN.{length, getD}
+use mathlib.Core.Option.{none, some}
+use lib.ListN.{length}
 use Rattle.field.specs.Test.{pick}
 use Rattle.page.specs.Page.{keyOf}
-use Rattle.log.specs.Record.{Rec, LB, LO, LI, LM, LE, carried}
+use Rattle.log.specs.Record.{Rec, LO, LI, LM, LE, carried}
 use Rattle.log.specs.Plan.{Step, takeOut, bringIn, point, close}
 use Rattle.log.specs.Log.{taken}
 use Rattle.unit.specs.Next.{skipped}

@@ -2,38 +2,38 @@
 -- for it is appended, and the pages then show the tree after the step. Assumes nothing.
 use Prim.Native.Nat.{ℕ, zero, suc, _+_, _-_, _≤_, _<_}
 use native.Mathlib.Omega.{arith}
-use mathlib.Core.Path.{_≡_, refl, sym, ap, ap₂, _∙_, subst}
-use mathlib.Core.Logic.{_≢_, _⊎_, inl, inr, ⊎-elim}
+use mathlib.Core.Path.{_≡_, refl, sym, ap, ap₂, _∙_}
+use mathlib.Core.Logic.{_≢_, _⊎_, inl, ⊎-elim}
 use mathlib.Core.Bool.{Bool, true, false, cond, false≢true}
-use mathlib.Core.List.{List, [], _∷_, _++_, map, map-append}
-use mathlib.Core.Option.{Option, none, some}
+use mathlib.Core.List.{List, [], _∷_, _++_, map}
+use mathlib.Core.Option.{some}
 use borrow.Author.Tests.{eq-eqb, ne-eqb, le-leb}
-use lib.Dec.{eqb, leb}
+use lib.Dec.{eqb}
 use lib.ListN.{length, getD, length-append, length-map}
-use Rattle.field.specs.Test.{both, all, pick, when, bind}
+use Rattle.field.specs.Test.{pick}
 use Rattle.field.specs.Bytes.{Bytes}
 use Rattle.field.proofs.Test.{both-2, both-intro, all-intro, all-nil, pick-true, pick-false, pick-second, when-true, bind-intro}
 use Rattle.field.proofs.Same.{eq-same}
-use Rattle.page.specs.Page.{joined, keyOf, ascend, ascendRecords, count, spare, made, base, leaf, empty, entries, records, rows, shaped, isBase, isLeaf, isEmpty, formed}
+use Rattle.page.specs.Page.{joined, keyOf, ascend, ascendRecords, spare, made, base, leaf, empty, entries, records, shaped, isBase, isLeaf, isEmpty, formed}
 use Rattle.page.specs.Change.{above, emptied, appended, has, pointTo, without, redirected, removed}
 use Rattle.page.specs.Pages.{page, putPage}
-use Rattle.page.proofs.Rows.{Each, Long, each-append}
+use Rattle.page.proofs.Rows.{Each, each-append}
 use Rattle.page.proofs.Order.{First, ascend-facts, ascend-of, ascend-append}
 use Rattle.page.proofs.Made.{Fill}
 use Rattle.page.proofs.Rows.{length-rows}
 use Rattle.page.proofs.Kept.{Changed, bytes-rows, emptied-kept, appended-kept, redirected-kept, removed-kept, bytes-emptied, bytes-appended, bytes-redirected, bytes-removed}
 use Rattle.page.proofs.Pages.{bytes-page}
-use Rattle.log.specs.Record.{out, lengthOf, Rec, LB, LO, LI, LM, LE, kindOf, carried, size}
+use Rattle.log.specs.Record.{out, lengthOf, Rec, LO, LI, LM, LE, kindOf, carried, size}
 use Rattle.log.specs.Plan.{Step, takeOut, bringIn, point, close}
 use Rattle.log.specs.Log.{taken}
 use Rattle.log.proofs.Valid.{Moved}
 use Rattle.unit.specs.Next.{target, change, changedAt, apply, targetOf, pageOf, skipped, lowestTo, nextRec, stepSize, room}
 use Rattle.unit.proofs.Places.{Leafy, Basic, Keeping, no-step, one-more}
 use Rattle.page.proofs.Region.{empty-formed, leaf-formed, base-formed}
-use Rattle.tidy.specs.Tidy.{InForm}
+use Rattle.tidy.specs.Tidy.{Sound, InForm}
 use Rattle.tidy.proofs.Model.{Entry, Ascends, full, upd, redirect, strip, lowest, State, state}
 use Rattle.tidy.proofs.Entries.{ent, ents, lowest-ents, lowest-has, redirect-ents, strip-ents}
-use Rattle.tidy.proofs.Pages.{Sound, sound-page, sound-put, page-other, leafOf, baseOf, leaf-at, base-at, leaf-form, base-form, leaf-rows, base-rows, rows-empty, put-leaf, put-leaf-base, put-base, put-base-leaf, put-root}
+use Rattle.tidy.proofs.Pages.{sound-page, sound-put, page-other, leafOf, baseOf, leaf-at, base-at, leaf-form, base-form, leaf-rows, base-rows, rows-empty, put-leaf, put-leaf-base, put-base, put-base-leaf, put-root}
 
 -- the pages w show the tree s
 pub record Shows (w : List ℕ) (s : State) : Type 0 where

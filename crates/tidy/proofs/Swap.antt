@@ -1,24 +1,22 @@
 -- A swap runs to its end, and leaves the tree with its two pages exchanged, under one base page or two. Assumes nothing.
-use Prim.Native.Nat.{ℕ, zero, suc, _+_, _-_, _≤_}
-use native.Mathlib.Omega.{arith}
+use Prim.Native.Nat.{ℕ, _≤_}
 use mathlib.Core.Path.{_≡_, refl, sym, ap, _∙_, subst, fun-ext}
-use mathlib.Core.Logic.{_≢_, _⊎_, inl, inr, ⊎-elim}
-use mathlib.Core.Bool.{Bool, true, false, cond}
+use mathlib.Core.Logic.{_≢_, ⊎-elim}
+use mathlib.Core.Bool.{true, false}
 use mathlib.Core.List.{List, [], _∷_, _++_, map}
-use mathlib.Core.Option.{Option, none, some}
+use mathlib.Core.Option.{Option, some}
 use borrow.Author.Tests.{eq-eqb, ne-eqb}
 use lib.Dec.{eqb}
-use lib.ListN.{length, getD}
+use lib.ListN.{length}
 use Rattle.field.specs.Test.{pick}
-use Rattle.page.specs.Page.{keyOf}
 use Rattle.log.specs.Record.{Rec, LO, LI, LM, LE, carried}
 use Rattle.log.specs.Plan.{Step, swapPlan, close}
 use Rattle.log.specs.Log.{taken}
 use Rattle.unit.specs.Next.{skipped, keyBefore}
-use Rattle.tidy.proofs.Model.{Entry, Ascends, pointers, full, upd, redirect, lowest, skips, to, exch, State, state, Tree, All}
+use Rattle.tidy.proofs.Model.{Entry, full, upd, redirect, lowest, skips, to, exch, State, state, Tree, All}
 use Rattle.tidy.proofs.Trail.{eq?}
 use Rattle.tidy.proofs.Rename.{exch-a, exch-b, exch-other, exch-twice, renaming, renamed-tree, renamed-contents}
-use Rattle.tidy.proofs.Run.{Run, takes, brings, points, Always, Kept, close-on}
+use Rattle.tidy.proofs.Run.{Run, takes, brings, points, Always, Kept}
 use Rattle.tidy.proofs.Place.{none-points, all-zip, found, only, once, x-full, x-alone, rises, mem, first-key, same-key}
 use Rattle.tidy.proofs.Move.{map-all, map-id, redirect-hit, redirect-key, redirect-page, to-at}
 

@@ -14,3 +14,4 @@ pub mod Histories
 pub mod Rests
 pub mod Replies
 pub mod OnUnits
+pub mod Demand3

@@ -98,7 +98,7 @@ module _ (rs : List (List ℕ)) where
       → stateOf c l .at + room w todo ≤ logLength → c .number + length l + length todo ≤ most4
       → (wellFormed (pages w′) ≡ true) × (allRecords (pages w′) ≡ rs) → Able store (asked rs) c w l
   carried-able c l (done {w = w}) e h v b f k fine = closed (h .good, h .fits) (ap length (v .steps)) fine
-  carried-able {w′ = w′} c l (step {x = x} {xs = xs} {w = w} {v = u} {r = r} form next applies bytes same rest) e h v b f k fine =
+  carried-able {w′ = w′} c l (step {x = x} {xs = xs} {w = w} {v = u} {r = r} form next applies bytes same formed rest) e h v b f k fine =
       let m : stateOf c l .number ≡ c .number + length l = number-atEnd (logOf c l) in
       let d = v .past x xs refl in
       let n : nextOf (x ∷ xs) (stateOf c l) w ≡ some r = next-of x xs (stateOf c l) _ w r d next f (omega arith) in
@@ -154,7 +154,7 @@ order-unit u ps ls i (l ∷ rest) g e =
     some-unit u (chooseOrder u ps ls (i + 1) rest) _ (eqb (l .at) (place i)) (λ h q. order-unit u ps ls (i + 1) rest h q)
     (is-unit u _ (put-unit u (place i) ps ls l)) g e
 
-chosen-unit : (s : State) (w : List ℕ) (g : Begin) → Chooses s w g → g .unit ≡ s .unit + 1
+pub chosen-unit : (s : State) (w : List ℕ) (g : Begin) → Chooses s w g → g .unit ≡ s .unit + 1
 unfolding compactUnit orderUnit
 chosen-unit s w g (inl (fill, h, e)) = choose-unit (s .unit + 1) (fillOf fill) 7 (s .lk) (pages w) (leavesOf (pages w)) g e
 chosen-unit s w g (inr e) = order-unit (s .unit + 1) (pages w) (leavesOf (pages w)) 0 (leavesOf (pages w)) g e

@@ -1,0 +1,31 @@
+-- Demand 3, with nothing left to hand in: the generic half (`replay`) with the store's page laws, the units that are carried out (`tidy`), and
+-- build's layout (`laid`). Assumes nothing.
+use Prim.Native.Nat.{ℕ, _+_, _≤_}
+use native.Mathlib.Omega.{arith}
+use mathlib.Core.Path.{_≡_, refl, sym, ap, _∙_, subst}
+use mathlib.Core.Logic.{_⊎_, inl, inr}
+use mathlib.Core.Bool.{Bool, true, false}
+use mathlib.Core.List.{List, [], _∷_}
+use mathlib.Core.Option.{Option, some, none}
+use lib.ListN.{length}
+use Rattle.field.specs.Bytes.{Bytes, most4}
+use Rattle.page.specs.Pages.{pages}
+use Rattle.log.specs.Record.{Begin}
+use Rattle.log.specs.Plan.{plan}
+use Rattle.log.specs.Log.{State}
+use Rattle.tidy.specs.Tidy.{Tidy, Keeps}
+use Rattle.tidy.proofs.Theorem.{compact-keeps, order-keeps}
+use Rattle.store.specs.Calls.{Lent, threeSized}
+use Rattle.store.specs.Calls as Calls
+use Rattle.replay.specs.Laws.{UnitLaws}
+use Rattle.promise.specs.Parts.{store, asked, Chooses}
+use Rattle.promise.proofs.OnUnits.{chosen-unit, unit-laws}
+
+-- a unit that a begin call chooses is carried out
+chosen-keeps : (n : ℕ) (s : State) (g : Begin) (w : List ℕ) → Tidy w → Chooses s w g → g .unit ≤ most4 → n + length (plan g) ≤ 4294967296 → Keeps n g w
+chosen-keeps n s g w t (inl (fill, h, e)) u k =
+    compact-keeps w t n (s .unit + 1) fill (s .lk) g (subst (λ (x : ℕ). x ≤ most4) (chosen-unit s w g (inl (fill, h, e))) u) h e k
+chosen-keeps n s g w t (inr e) u k = order-keeps w t n (s .unit + 1) g (subst (λ (x : ℕ). x ≤ most4) (chosen-unit s w g (inr e)) u) e k
+
+pub units : (rs : List (List ℕ)) → UnitLaws store (asked rs)
+units rs = unit-laws chosen-keeps rs

@@ -7,8 +7,8 @@ use mathlib.Core.Path.{_≡_, refl, ap, _∙_}
 use mathlib.Core.Bool.{true}
 use mathlib.Core.List.{List, [], _∷_, _++_}
 use lib.ListN.{length, take, drop, getD, take-append-drop, length-take, length-drop}
-use Rattle.field.proofs.Test.{both-1}
-use Rattle.page.specs.Page.{Kind, keyOf, ascend}
+use Rattle.field.proofs.Test.{both-1, both-2, both-intro}
+use Rattle.page.specs.Page.{Kind, keyOf, ascend, pointing}
 use Rattle.page.proofs.Rows.{Each, nil, cons, Long}
 use Rattle.page.proofs.Order.{First, ascend-facts, ascend-lower, ascend-append}
 use Rattle.page.proofs.Made.{Fill}
@@ -81,6 +81,24 @@ module _ (a b : ℕ) where
   ascend-group lo i [] e h = absurd (not-suc-le-zero h)
   ascend-group lo zero (g ∷ gs) e h = both-1 _ _ (rw (ascend-append a b lo g (flat gs)) at e)
   ascend-group lo (suc i) (g ∷ gs) e h = ascend-group lo i gs (ascend-back lo g (flat gs) e) (omega arith)
+
+-- entries that point into a range do so in group i
+pointing-front : (from to : ℕ) (xs ys : List (List ℕ)) → pointing from to (xs ++ ys) ≡ true → pointing from to xs ≡ true
+unfolding pointing
+pointing-front from to [] ys e = refl
+pointing-front from to (r ∷ rs) ys e =
+    both-intro _ _ (both-1 _ _ e) (both-intro _ _ (both-1 _ _ (both-2 _ _ e)) (pointing-front from to rs ys (both-2 _ _ (both-2 _ _ e))))
+
+pointing-back : (from to : ℕ) (xs ys : List (List ℕ)) → pointing from to (xs ++ ys) ≡ true → pointing from to ys ≡ true
+unfolding pointing
+pointing-back from to [] ys e = e
+pointing-back from to (r ∷ rs) ys e = pointing-back from to rs ys (both-2 _ _ (both-2 _ _ e))
+
+pub pointing-group : (from to i : ℕ) (gs : List (List (List ℕ))) → pointing from to (flat gs) ≡ true → i < length gs
+    → pointing from to (getD gs i []) ≡ true
+pointing-group from to i [] e h = absurd (not-suc-le-zero h)
+pointing-group from to zero (g ∷ gs) e h = pointing-front from to g (flat gs) e
+pointing-group from to (suc i) (g ∷ gs) e h = pointing-group from to i gs (pointing-back from to g (flat gs) e) (omega arith)
 
 -- a group of rows in order fills a page of its kind
 pub group-fill : (k : Kind) (m i : ℕ) (gs : List (List (List ℕ))) → k .least ≤ 1 → m ≤ k .most → Sized m gs

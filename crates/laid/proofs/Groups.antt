@@ -34,6 +34,7 @@ flat-groups (suc n) k (r ∷ rs) h m =
     let l : length (drop k (r ∷ rs)) ≤ n = rw (length-drop k (r ∷ rs)) (omega arith) in
     ap (λ (x : List (List ℕ)). take k (r ∷ rs) ++ x) (flat-groups n k (drop k (r ∷ rs)) h l) ∙ take-append-drop k (r ∷ rs)
 
+-- each group has a row, and at most k
 pub sized-groups : (n k : ℕ) (rs : List (List ℕ)) → 1 ≤ k → Sized k (groups n k rs)
 unfolding groups
 sized-groups zero k rs h = done
@@ -51,12 +52,13 @@ sized-at i done h = absurd (not-suc-le-zero h)
 sized-at zero (more a b s) h = (a, b)
 sized-at (suc i) (more a b s) h = sized-at i s (omega arith)
 
--- what holds of each row holds of the rows in front, and of those behind
 module _ {P : List ℕ → Type 0} where
+  -- what holds of each row holds of the rows in front
   pub each-front : (a b : List (List ℕ)) → Each P (a ++ b) → Each P a
   each-front [] b p = nil
   each-front (x ∷ xs) b (cons h p) = cons h (each-front xs b p)
 
+  -- and of those behind
   pub each-back : (a b : List (List ℕ)) → Each P (a ++ b) → Each P b
   each-back [] b p = p
   each-back (x ∷ xs) b (cons h p) = each-back xs b p
@@ -82,18 +84,20 @@ module _ (a b : ℕ) where
   ascend-group lo zero (g ∷ gs) e h = both-1 _ _ (rw (ascend-append a b lo g (flat gs)) at e)
   ascend-group lo (suc i) (g ∷ gs) e h = ascend-group lo i gs (ascend-back lo g (flat gs) e) (omega arith)
 
--- entries that point into a range do so in group i
+-- entries that point into a range: those in front do
 pointing-front : (from to : ℕ) (xs ys : List (List ℕ)) → pointing from to (xs ++ ys) ≡ true → pointing from to xs ≡ true
 unfolding pointing
 pointing-front from to [] ys e = refl
 pointing-front from to (r ∷ rs) ys e =
     both-intro _ _ (both-1 _ _ e) (both-intro _ _ (both-1 _ _ (both-2 _ _ e)) (pointing-front from to rs ys (both-2 _ _ (both-2 _ _ e))))
 
+-- and those behind
 pointing-back : (from to : ℕ) (xs ys : List (List ℕ)) → pointing from to (xs ++ ys) ≡ true → pointing from to ys ≡ true
 unfolding pointing
 pointing-back from to [] ys e = e
 pointing-back from to (r ∷ rs) ys e = pointing-back from to rs ys (both-2 _ _ (both-2 _ _ e))
 
+-- and those of group i
 pub pointing-group : (from to i : ℕ) (gs : List (List (List ℕ))) → pointing from to (flat gs) ≡ true → i < length gs
     → pointing from to (getD gs i []) ≡ true
 pointing-group from to i [] e h = absurd (not-suc-le-zero h)

@@ -1,26 +1,26 @@
 -- Entries that lead to groups of rows, one page a group from page p on: that `entriesFrom` makes such entries, from the leftmost key
 -- or from 0, and what they are like, whatever the rows. Once for entries over records and over entries. Assumes nothing.
-use Prim.Native.Nat.{ℕ, zero, suc, _+_, _≤_, _<_}
-use native.Mathlib.Nat.{not-suc-le-zero, add-zero}
+use Prim.Native.Nat.{ℕ, suc, _+_, _≤_, _<_}
+use native.Mathlib.Nat.{not-suc-le-zero}
 use native.Mathlib.Omega.{arith}
 use mathlib.Core.Path.{_≡_, refl, sym, ap, _∙_}
-use mathlib.Core.Bool.{Bool, true, false}
+use mathlib.Core.Bool.{true}
 use mathlib.Core.List.{List, [], _∷_, _++_}
 use lib.ListN.{length, getD}
-use borrow.Author.Tests.{eq-eqb, ne-eqb, le-leb, lt-ltb}
-use Rattle.field.specs.Test.{both, pick}
-use Rattle.field.specs.Bytes.{Bytes, bytes2, bytes4, le2, le4}
-use Rattle.field.proofs.Test.{both-1, both-2, both-intro, pick-true, pick-false}
+use borrow.Author.Tests.{eq-eqb, ne-eqb, le-leb}
+use Rattle.field.specs.Test.{pick}
+use Rattle.field.specs.Bytes.{Bytes, bytes2, bytes4, le2}
+use Rattle.field.proofs.Test.{both-1, both-2, both-intro}
 use Rattle.field.proofs.Part.{split}
-use Rattle.field.proofs.Number.{length-bytes2, le4-small, le4-drop, le4-bytes4, le2-drop, le2-bytes2}
+use Rattle.field.proofs.Number.{le4-small, le4-drop, le4-bytes4}
 use Rattle.field.proofs.Byte.{bytes-cons, bytes-append, bytes-bytes2, bytes-bytes4}
-use Rattle.page.specs.Page.{keyOf, toPage, entry, ascend, pointing, rows}
+use Rattle.page.specs.Page.{keyOf, toPage, entry, ascend, pointing}
 use Rattle.page.specs.Change.{above}
 use Rattle.page.proofs.Rows.{Each, nil, cons, Long}
 use Rattle.page.proofs.Order.{First, ascend-facts, ascend-of, ascend-lower, ascend-append}
-use Rattle.tree.specs.Tree.{under, below, pointers, headed, lower, keysBetween, keysKept}
+use Rattle.tree.specs.Tree.{pointers}
 use Rattle.tree.specs.Layout.{entriesFrom, fromZero}
-use Rattle.laid.proofs.Groups.{flat, Sized, done, more, each-front, each-back}
+use Rattle.laid.proofs.Groups.{flat, Sized, done, more, each-back}
 
 -- ---- an entry
 
@@ -33,20 +33,23 @@ pub record Entry (key p : ℕ) (e : List ℕ) : Type 0 where
   pub keyed : keyOf e ≡ key
   pub to : toPage e ≡ p
 
+-- its key is read again
 pub key-entry : (key p : ℕ) → key < 4294967296 → keyOf (entry key p) ≡ key
 unfolding keyOf entry
 key-entry key p h = sym (le4-drop 2 0 (entry key p)) ∙ le4-bytes4 key (bytes2 p) h
 
+-- and its page
 page-entry : (key p : ℕ) → p < 65536 → toPage (entry key p) ≡ p
 unfolding toPage entry bytes4 bytes2 le2
 page-entry key p h = omega arith
 
+-- `entry` makes one
 pub entry-of : (key p : ℕ) → key < 4294967296 → p < 65536 → Entry key p (entry key p)
 entry-of key p h k =
     record {
       long = unfold entry bytes4 bytes2 in refl;
       bytes = unfold entry in bytes-cons 101 (110 ∷ (bytes4 key ++ bytes2 p)) (omega arith)
-      (bytes-cons 110 (bytes4 key ++ bytes2 p) (omega arith) (bytes-append (bytes4 key) (bytes2 p) (bytes-bytes4 key) (bytes-bytes2 p)));
+          (bytes-cons 110 (bytes4 key ++ bytes2 p) (omega arith) (bytes-append (bytes4 key) (bytes2 p) (bytes-bytes4 key) (bytes-bytes2 p)));
       one = unfold entry in refl;
       two = unfold entry in refl;
       keyed = key-entry key p h;
@@ -67,7 +70,7 @@ pub data Heads (a b : ℕ) : (lo p : ℕ) → List (List ℕ) → List (List (Li
   head : {lo p key hi : ℕ} {e : List ℕ} {es : List (List ℕ)} {g : List (List ℕ)} {gs : List (List (List ℕ))} → Entry key p e → lo ≤ key
       → Held a b key hi g → Heads a b hi (p + 1) es gs → Heads a b lo p (e ∷ es) (g ∷ gs)
 
--- the least key that may follow rows is no lower than their own, and no lower for a higher start
+-- the least key that may follow rows is no lower than the least that is allowed in them
 pub above-least : (a b lo : ℕ) (g : List (List ℕ)) → ascend a b lo g ≡ true → lo ≤ above lo g
 unfolding above
 above-least a b lo [] e = omega arith
@@ -75,6 +78,7 @@ above-least a b lo (r ∷ g) e =
     let f : First a b lo r g = ascend-facts a b lo r g e in
     omega (arith, f .low, above-least a b (keyOf r + 1) g (f .after))
 
+-- and is no lower for a higher one
 above-lower : (lo hi : ℕ) (g : List (List ℕ)) → lo ≤ hi → above lo g ≤ above hi g
 unfolding above
 above-lower lo hi [] h = h
@@ -121,14 +125,17 @@ heads-zero a b lo p (e ∷ es) (g ∷ gs) (head {key = key} {hi = hi} x low held
 -- ---- what entries over groups are like
 
 module _ {a b : ℕ} where
+  -- as many as there are groups
   pub heads-length : {lo p : ℕ} {es : List (List ℕ)} {gs : List (List (List ℕ))} → Heads a b lo p es gs → length es ≡ length gs
   heads-length none = refl
   heads-length (head x low held rest) = ap suc (heads-length rest)
 
+  -- eight bytes long
   pub heads-long : {lo p : ℕ} {es : List (List ℕ)} {gs : List (List (List ℕ))} → Heads a b lo p es gs → Each (Long 8) es
   heads-long none = nil
   heads-long (head x low held rest) = cons (x .long) (heads-long rest)
 
+  -- of bytes
   pub heads-bytes : {lo p : ℕ} {es : List (List ℕ)} {gs : List (List (List ℕ))} → Heads a b lo p es gs → Each Bytes es
   heads-bytes none = nil
   heads-bytes (head x low held rest) = cons (x .bytes) (heads-bytes rest)
@@ -155,18 +162,20 @@ module _ {a b : ℕ} where
       rw (x .to)
       (both-intro _ _ (le-leb from p h) (both-intro _ _ (le-leb p to (omega arith)) (heads-pointing from to rest (omega arith) (omega arith))))
 
-  -- how many of them point to a page: one to each page from p on, as many as there are groups
+  -- none points to a page before p
   pub heads-before : {lo p : ℕ} {es : List (List ℕ)} {gs : List (List (List ℕ))} (q : ℕ) → Heads a b lo p es gs → q < p → pointers q es ≡ 0
   unfolding pointers pick
   heads-before q none h = refl
   heads-before {p} q (head x low held rest) h = rw (x .to, ne-eqb p q (λ e. omega arith), heads-before q rest (omega arith))
 
+  -- none to a page behind those of the groups
   pub heads-after : {lo p : ℕ} {es : List (List ℕ)} {gs : List (List (List ℕ))} (q : ℕ) → Heads a b lo p es gs → p + length gs ≤ q
       → pointers q es ≡ 0
   unfolding pointers pick
   heads-after q none h = refl
   heads-after {p} q (head x low held rest) h = rw (x .to, ne-eqb p q (λ e. omega arith), heads-after q rest (omega arith))
 
+  -- and one to each of these
   pub heads-once : {lo p : ℕ} {es : List (List ℕ)} {gs : List (List (List ℕ))} (q : ℕ) → Heads a b lo p es gs → p ≤ q → q < p + length gs
       → pointers q es ≡ 1
   unfolding pointers pick

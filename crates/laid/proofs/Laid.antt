@@ -1,10 +1,10 @@
 -- The law of build's layout, document 01: records in order, laid out with leaf fill f and base fill g, are 64 pages in form, all with
 -- number 0, that hold a well-formed tree of exactly these records. Assumes nothing.
-use Prim.Native.Nat.{ℕ, _+_, _*_, _≤_, _<_}
+use Prim.Native.Nat.{ℕ, _*_, _≤_, _<_}
 use native.Mathlib.Omega.{arith}
-use mathlib.Core.Path.{_≡_, refl, sym, ap, _∙_}
+use mathlib.Core.Path.{_≡_, ap, _∙_}
 use mathlib.Core.Bool.{true}
-use mathlib.Core.List.{List, [], _∷_}
+use mathlib.Core.List.{List, []}
 use lib.ListN.{length, getD}
 use Rattle.field.specs.Bytes.{Bytes}
 use Rattle.page.specs.Page.{root, base, leaf, empty, joined, ascendRecords, number}
@@ -12,7 +12,7 @@ use Rattle.page.specs.Pages.{page, pages, allFormed}
 use Rattle.page.proofs.Rows.{Each, nil, Long, each-at, length-joined, bytes-joined}
 use Rattle.page.proofs.Pages.{getD-pages}
 use Rattle.tree.specs.Tree.{wellFormed, allRecords}
-use Rattle.tree.specs.Layout.{groups, entriesFrom, fromZero, leafGroups, baseGroups, layout}
+use Rattle.tree.specs.Layout.{entriesFrom, fromZero, leafGroups, baseGroups, layout}
 use Rattle.laid.proofs.Groups.{flat, Sized, flat-groups, sized-groups, each-group, pointing-group, group-fill}
 use Rattle.laid.proofs.Heads.{Heads, heads-from, heads-zero, heads-length, heads-long, heads-bytes, heads-ascend, heads-pointing}
 use Rattle.laid.proofs.Under.{zero-first, from-starts, from-headed}
@@ -31,6 +31,7 @@ pub record Laid (w : List ℕ) (rs : List (List ℕ)) : Type 0 where
 -- ---- the pages of a tree whose parts fit together, side by side
 
 module _ (es level : List (List ℕ)) (bs ls : List (List (List ℕ))) (t : Parts es level bs ls) (upper : Each Bytes (flat bs)) (lower : Each Bytes (flat ls)) where
+  -- every page is made of bytes
   sheet-bytes : Each Bytes (sheet es bs ls)
   sheet-bytes =
       each-sheet es bs ls (fresh-bytes root es (omega arith) (heads-bytes (t .upper)))
@@ -38,6 +39,7 @@ module _ (es level : List (List ℕ)) (bs ls : List (List (List ℕ))) (t : Part
       (λ i h. fresh-bytes leaf (getD ls i []) (omega arith) (each-group i ls lower h))
       (fresh-bytes empty [] (omega arith) nil)
 
+  -- joined, the pages are as they should be
   laid-joined : Laid (joined (sheet es bs ls)) (flat ls)
   laid-joined =
       let ps : List (List ℕ) = sheet es bs ls in
@@ -55,12 +57,13 @@ module _ (es level : List (List ℕ)) (bs ls : List (List (List ℕ))) (t : Part
 
 -- ---- build's layout
 
--- the groups of the entries to the leaves
 module _ (f g : ℕ) (rs : List (List ℕ)) (some-rows : 1 ≤ g) where
+  -- each group of entries has one, and at most g
   base-sized : Sized g (baseGroups f g rs)
   unfolding baseGroups
   base-sized = sized-groups (length (leafGroups f rs)) g (fromZero (entriesFrom 8 (leafGroups f rs))) some-rows
 
+  -- and they are the entries to the leaves
   base-flat : length (fromZero (entriesFrom 8 (leafGroups f rs))) ≡ length (leafGroups f rs)
       → flat (baseGroups f g rs) ≡ fromZero (entriesFrom 8 (leafGroups f rs))
   unfolding baseGroups

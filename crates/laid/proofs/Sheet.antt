@@ -1,34 +1,37 @@
 -- The layout as a list of 64 pages: which page stands at which number, and what holds of every page. Assumes nothing.
 use Prim.Native.Nat.{ℕ, zero, suc, _+_, _-_, _≤_, _<_}
-use native.Mathlib.Nat.{not-suc-le-zero, zero-add}
+use native.Mathlib.Nat.{not-suc-le-zero}
 use native.Mathlib.Omega.{arith}
 use mathlib.Core.Path.{_≡_, refl, sym, ap, ap₂, _∙_}
 use mathlib.Core.List.{List, [], _∷_, _++_, map, append-nil}
-use lib.ListN.{length, drop, getD, replicate, length-append, length-replicate, getD-replicate, length-map, List·getD-append}
+use lib.ListN.{length, getD, replicate, length-append, length-replicate, getD-replicate, length-map, List·getD-append}
 use lib.Seq.{getD-append-add}
 use Rattle.field.proofs.Part.{split}
 use Rattle.page.specs.Page.{Kind, root, base, leaf, empty, joined, rowsOf}
 use Rattle.page.specs.Pages.{pages}
-use Rattle.page.proofs.Rows.{Each, nil, cons, Long, each-append, joined-append, length-joined, rowsOf-joined}
+use Rattle.page.proofs.Rows.{Each, nil, cons, Long, each-append, joined-append, rowsOf-joined}
 use Rattle.tree.specs.Layout.{fresh, filled, layout, leafGroups, baseGroups, entriesFrom}
 
 -- ---- n pages: one for each group, then empty ones
 
+-- these pages as a list
 unfoldable pub run : (n : ℕ) → Kind → List (List (List ℕ)) → List (List ℕ)
 run n k gs = map (fresh k) gs ++ replicate (n - length gs) (fresh empty [])
 
+-- joined, they are `filled`
 pub joined-run : (n : ℕ) (k : Kind) (gs : List (List (List ℕ))) → joined (run n k gs) ≡ filled n k gs
 unfolding run filled
 joined-run n k gs = joined-append (map (fresh k) gs) (replicate (n - length gs) (fresh empty []))
 
 module _ (n : ℕ) (k : Kind) (gs : List (List (List ℕ))) where
+  -- n of them
   pub length-run : length gs ≤ n → length (run n k gs) ≡ n
   unfolding run
   length-run h =
       rw (length-append (map (fresh k) gs) (replicate (n - length gs) (fresh empty [])), length-map gs (fresh k), length-replicate (n - length gs) (fresh empty []))
       (omega arith)
 
-  -- the page of group i, and the empty pages behind the groups
+  -- the page of group i
   pub run-full : (i : ℕ) → i < length gs → getD (run n k gs) i [] ≡ fresh k (getD gs i [])
   unfolding run
   run-full i h =
@@ -39,6 +42,7 @@ module _ (n : ℕ) (k : Kind) (gs : List (List (List ℕ))) where
       mapped (x ∷ xs) zero m = refl
       mapped (x ∷ xs) (suc j) m = mapped xs j (omega arith)
 
+  -- and the empty pages behind the groups
   pub run-empty : (i : ℕ) → length gs ≤ i → i < n → getD (run n k gs) i [] ≡ fresh empty []
   unfolding run
   run-empty i h m =
@@ -58,15 +62,18 @@ each-run {P} n k gs f e = each-append (mapped gs f) (same (n - length gs))
     mapped : (xs : List (List (List ℕ))) → ((i : ℕ) → i < length xs → P (fresh k (getD xs i []))) → Each P (map (fresh k) xs)
     mapped [] g = nil
     mapped (x ∷ xs) g = cons (g 0 (omega arith)) (mapped xs (λ i h. g (suc i) (omega arith)))
+
     same : (m : ℕ) → Each P (replicate m (fresh empty []))
     same zero = nil
     same (suc m) = cons e (same m)
 
 -- ---- the 64 pages
 
+-- the root, 7 base pages, 56 leaf pages
 unfoldable pub sheet : (es : List (List ℕ)) (bs ls : List (List (List ℕ))) → List (List ℕ)
 sheet es bs ls = fresh root es ∷ (run 7 base bs ++ run 56 leaf ls)
 
+-- joined, they are the layout
 pub layout-sheet : (f g : ℕ) (rs : List (List ℕ))
     → layout f g rs ≡ joined (sheet (entriesFrom 1 (baseGroups f g rs)) (baseGroups f g rs) (leafGroups f rs))
 unfolding layout sheet joined
@@ -76,6 +83,7 @@ layout-sheet f g rs =
     rw (joined-append (run 7 base bs) (run 56 leaf ls), joined-run 7 base bs, joined-run 56 leaf ls)
 
 module _ (es : List (List ℕ)) (bs ls : List (List (List ℕ))) where
+  -- what holds of every page that is not behind its groups, and of an empty one, holds of each
   pub each-sheet : {P : List ℕ → Type 0} → P (fresh root es) → ((i : ℕ) → i < length bs → P (fresh base (getD bs i [])))
       → ((i : ℕ) → i < length ls → P (fresh leaf (getD ls i []))) → P (fresh empty [])
       → Each P (sheet es bs ls)
@@ -83,6 +91,7 @@ module _ (es : List (List ℕ)) (bs ls : List (List (List ℕ))) where
   each-sheet r b l e = cons r (each-append (each-run 7 base bs b e) (each-run 56 leaf ls l e))
 
   module _ (seven : length bs ≤ 7) (most : length ls ≤ 56) where
+    -- 64 of them
     pub length-sheet : length (sheet es bs ls) ≡ 64
     unfolding sheet
     length-sheet =
@@ -98,12 +107,14 @@ module _ (es : List (List ℕ)) (bs ls : List (List (List ℕ))) where
         ∙ ap (rowsOf 256 (length ps)) (sym (append-nil (joined ps)))
         ∙ rowsOf-joined 256 ps [] p
 
+    -- the base pages are pages 1 to 7
     pub sheet-base : (i : ℕ) → i < 7 → getD (sheet es bs ls) (1 + i) [] ≡ getD (run 7 base bs) i []
     unfolding sheet
     sheet-base i h =
         let e : 1 + i ≡ suc i = omega arith in
         rw e (List·getD-append (run 7 base bs) (run 56 leaf ls) [] i (rw (length-run 7 base bs seven) h))
 
+    -- the leaf pages follow from page 8 on
     pub sheet-leaf : (i : ℕ) → getD (sheet es bs ls) (8 + i) [] ≡ getD (run 56 leaf ls) i []
     unfolding sheet
     sheet-leaf i =

@@ -5,7 +5,7 @@ use native.Mathlib.Nat.{not-suc-le-zero, add-zero}
 use native.Mathlib.Omega.{arith}
 use mathlib.Core.Path.{_≡_, refl, sym}
 use mathlib.Core.Bool.{true}
-use mathlib.Core.List.{List, [], _∷_, _++_}
+use mathlib.Core.List.{List, [], _∷_}
 use lib.ListN.{length, getD}
 use borrow.Author.Tests.{eq-eqb, le-leb, lt-ltb}
 use Rattle.field.specs.Bytes.{Bytes, le4}
@@ -13,20 +13,22 @@ use Rattle.field.proofs.Test.{both-intro}
 use Rattle.field.proofs.Number.{le4-small}
 use Rattle.page.specs.Page.{keyOf, toPage, entry, ascend, rows}
 use Rattle.page.specs.Change.{above}
-use Rattle.page.proofs.Rows.{Each, nil, cons}
+use Rattle.page.proofs.Rows.{Each, cons}
 use Rattle.page.proofs.Order.{First, ascend-facts}
 use Rattle.tree.specs.Tree.{under, below, startsAtZero, headed, lower, keysBetween, keysKept}
 use Rattle.tree.specs.Layout.{entriesFrom, fromZero}
 use Rattle.laid.proofs.Groups.{flat, Sized, done, more, each-back}
-use Rattle.laid.proofs.Heads.{Entry, key-entry, entry-of, Held, Heads, none, head, above-least}
+use Rattle.laid.proofs.Heads.{Entry, key-entry, entry-of, Heads, none, head, above-least}
 
 -- the pages of ps from p on hold the groups, as rows of sz bytes
 abbrev pub Holds : (sz : ℕ) (ps : List (List ℕ)) (p : ℕ) → List (List (List ℕ)) → Type 0
 Holds sz ps p gs = (i : ℕ) → i < length gs → rows sz (getD ps (p + i) []) ≡ getD gs i []
 
+-- the first of them
 holds-first : (sz p : ℕ) (ps g : List (List ℕ)) (gs : List (List (List ℕ))) → Holds sz ps p (g ∷ gs) → rows sz (getD ps p []) ≡ g
 holds-first sz p ps g gs h = rw (add-zero p) at (h 0 (omega arith))
 
+-- and the others
 holds-rest : (sz p : ℕ) (ps g : List (List ℕ)) (gs : List (List (List ℕ))) → Holds sz ps p (g ∷ gs) → Holds sz ps (p + 1) gs
 holds-rest sz p ps g gs h i k = let e : p + 1 + i ≡ p + suc i = omega arith in rw e (h (suc i) (omega arith))
 
@@ -57,6 +59,7 @@ module _ {a b : ℕ} where
   heads-lower x (head {key = key} y low held rest) h = rw (y .keyed) (lt-ltb x key (omega arith))
 
   module _ (sz : ℕ) (ps : List (List ℕ)) where
+    -- the rows below the entries are those of the groups
     pub heads-below : {lo p : ℕ} {es : List (List ℕ)} {gs : List (List (List ℕ))} → Heads a b lo p es gs → Holds sz ps p gs
         → below sz ps es ≡ flat gs
     unfolding below
@@ -64,6 +67,7 @@ module _ {a b : ℕ} where
     heads-below {p} (head {e = e} {g = g} {gs = gs} x low held rest) h =
         rw (rows-under sz p ps e g gs (x .to) h, heads-below rest (holds-rest sz p ps g gs h))
 
+    -- and their keys stand between the entries'
     pub heads-kept : {lo p : ℕ} {es : List (List ℕ)} {gs : List (List (List ℕ))} → Heads a b lo p es gs → Holds sz ps p gs
         → keysKept sz ps es ≡ true
     unfolding keysKept
@@ -88,15 +92,17 @@ from-headed p k ps ((r ∷ g) ∷ gs) (more s t u) (cons c q) h held =
     (both-intro _ _ (eq-eqb (keyOf r) (keyOf (entry (keyOf r) p)) (sym (x .keyed)))
     (from-headed (p + 1) k ps gs u (each-back g (flat gs) q) (omega arith) (holds-rest 8 p ps (r ∷ g) gs held)))
 
+-- an entry with key 0
 zero-key : (p : ℕ) → keyOf (entry 0 p) ≡ 0
 zero-key p = key-entry 0 p (omega arith)
 
--- the leftmost entry of all has key 0, and so has the first entry over these
+-- the leftmost entry of all has key 0
 pub zero-first : (es : List (List ℕ)) → keyOf (getD (fromZero es) 0 []) ≡ 0
 unfolding fromZero
 zero-first [] = unfold keyOf le4 in refl
 zero-first (e ∷ es) = zero-key (toPage e)
 
+-- and so has the first entry over such entries
 pub from-starts : (p k : ℕ) (gs : List (List (List ℕ))) → Sized k gs → keyOf (getD (flat gs) 0 []) ≡ 0
     → startsAtZero (entriesFrom p gs) ≡ true
 unfolding startsAtZero entriesFrom

@@ -44,7 +44,7 @@ use Rattle.promise.proofs.Standing.{Standing, fits-standing}
 
 -- ---- the next record
 
-none-not : {A : Type 0} (a : A) → none ≡ some a → ⊥
+pub none-not : {A : Type 0} (a : A) → none ≡ some a → ⊥
 none-not a e = let z : _≡_ {A = ℕ} 0 1 = cc in omega arith
 
 -- the key of an entry of bytes fits

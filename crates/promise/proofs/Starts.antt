@@ -1,6 +1,6 @@
--- The two starts of a history are live states: an accepted recovery whose log held only its check record, by what its tests have found.
--- Assumes nothing.
-use Prim.Native.Nat.{ℕ, zero, suc, _+_, _-_, _≤_, _<_}
+-- The two starts of a history are live states: an accepted recovery whose log held only its check record, by what its tests have found, and
+-- a finished build, by the laws of its layout. Assumes nothing.
+use Prim.Native.Nat.{ℕ, zero, suc, _+_, _-_, _*_, _/_, _%_, _≤_, _<_}
 use native.Mathlib.Omega.{arith}
 use mathlib.Core.Path.{_≡_, refl, sym, ap, ap₂, _∙_, subst}
 use mathlib.Core.Bool.{Bool, true, false}
@@ -12,21 +12,27 @@ use borrow.Author.Tests.{eqb-true, leb-true}
 use Rattle.field.specs.Test.{both, need, given}
 use Rattle.field.specs.Bytes.{Bytes}
 use Rattle.field.proofs.Test.{both-1, both-2, all-head, all-tail, need-true, given-some}
-use Rattle.page.specs.Page.{number}
+use Rattle.page.specs.Page.{rowsOf, ascendRecords, number}
+use Rattle.page.proofs.Rows.{long-rowsOf, bytes-rowsOf}
 use Rattle.page.specs.Pages.{page, pages, allFormed}
 use Rattle.page.proofs.Pages.{length-pages, getD-pages, formed-page}
 use Rattle.log.specs.Record.{Check, Rec}
 use Rattle.log.specs.Log.{first, afterAll, Log, readLog, atEnd}
-use Rattle.log.proofs.State.{sizes, number-atEnd}
+use Rattle.log.proofs.State.{number-atEnd}
+use Rattle.log.proofs.Cut.{good-bare}
 use Rattle.tree.specs.Tree.{wellFormed, allRecords}
+use Rattle.tree.specs.Layout.{leafGroups, baseGroups, layout}
+use Rattle.laid.proofs.Laid.{Laid, layout-laws}
 use Rattle.unit.specs.Next.{repeatAll}
-use Rattle.store.specs.Calls.{Lent, lent, Left, left, refused, zeroed, threeSized, pagesSized, logSized, noneNewer, Went, went, finish, recovered, todoOf}
+use Rattle.store.specs.Calls.{Lent, lent, Left, left, refused, zeroed, threeSized, pagesSized, logSized, noneNewer, Went, went, finish, recovered, todoOf, newLog}
 use Rattle.store.specs.Calls as Calls
 use Rattle.replay.specs.Store.{Settled, Reached}
 use Rattle.promise.specs.Parts.{logOf, stateOf, store, asked}
 use Rattle.promise.specs.Promise.{InBytes}
 use Rattle.promise.proofs.Image.{image, Stored, image-read, stored-read}
-use Rattle.promise.proofs.Live.{Live}
+use Rattle.promise.proofs.Forward.{none-not}
+use Rattle.promise.proofs.Recovering.{none-newer}
+use Rattle.promise.proofs.Live.{Live, image-bare}
 use Rattle.promise.proofs.Called.{bare-at, nothing-forced}
 
 -- ---- an accepted chain of tests
@@ -153,3 +159,77 @@ woken-live rs d c b e r q =
     let z : Calls.recover d ≡ y =
     f .is ∙ ap₂ (λ (a : ℕ) (l : List ℕ). left 0 (0 ∷ []) (lent a a (d .store) (d .store) l (d .bytes))) (bare-at c) i in
     (subst (λ (x : Left). Live rs (x .now)) (sym z) (live-bare rs (d .store) (d .bytes) c g), ap (λ (x : Left). x .now .forced) z)
+
+-- ---- a finished build
+
+-- its check record: number 1, unit 0, LK absent
+abbrev newest : Check
+newest = record { number = 1; unit = 0; lk = none }
+
+-- what an accepted build has tested
+pub record Built (f g : ℕ) (d : Lent) : Type 0 where
+  pub leaf-low : 1 ≤ f
+  pub leaf-high : f ≤ 15
+  pub base-low : 1 ≤ g
+  pub base-high : g ≤ 30
+  pub whole : length (d .bytes) % 16 ≡ 0
+  pub order : ascendRecords 0 (rowsOf 16 (length (d .bytes) / 16) (d .bytes)) ≡ true
+  pub leaves : length (leafGroups f (rowsOf 16 (length (d .bytes) / 16) (d .bytes))) ≤ 56
+  pub bases : length (baseGroups f g (rowsOf 16 (length (d .bytes) / 16) (d .bytes))) ≤ 7
+  pub is : Calls.build f g d
+      ≡ left 0 [] (lent 24 24 (layout f g (rowsOf 16 (length (d .bytes) / 16) (d .bytes))) (layout f g (rowsOf 16 (length (d .bytes) / 16) (d .bytes)))
+      (newLog newest) (d .bytes))
+
+pub built-of : (f g : ℕ) (d : Lent) → Calls.build f g d .reply ≡ 0 → Built f g d
+unfolding Calls.build
+built-of f g d e =
+    let s = passed (threeSized d) (refused 0 1 d) _ (refused-bad 0 0 d) e in
+    let e1 = onward (threeSized d) (refused 0 1 d) _ s e in
+    let t = passed _ (refused 0 12 d) _ (refused-bad 0 11 d) e1 in
+    let e2 = onward _ (refused 0 12 d) _ t e1 in
+    let o = passed _ (refused 0 16 d) _ (refused-bad 0 15 d) e2 in
+    let e3 = onward _ (refused 0 16 d) _ o e2 in
+    let n = passed _ (refused 0 17 d) _ (refused-bad 0 16 d) e3 in
+    let t1 = all-tail _ _ t in
+    let t2 = all-tail _ _ t1 in
+    let t3 = all-tail _ _ t2 in
+    record {
+      leaf-low = leb-true 1 f (all-head _ _ t);
+      leaf-high = leb-true f 15 (all-head _ _ t1);
+      base-low = leb-true 1 g (all-head _ _ t2);
+      base-high = leb-true g 30 (all-head _ _ t3);
+      whole = eqb-true (length (d .bytes) % 16) 0 (all-head _ _ (all-tail _ _ t3));
+      order = o;
+      leaves = leb-true _ 56 (both-1 _ _ n);
+      bases = leb-true _ 7 (both-2 _ _ n);
+      is = need-true (threeSized d) (refused 0 1 d) _ s
+          ∙ need-true _ (refused 0 12 d) _ t
+          ∙ need-true _ (refused 0 16 d) _ o
+          ∙ need-true _ (refused 0 17 d) _ n;
+    }
+
+-- the check record of a new store
+newest-stored : Stored newest []
+newest-stored =
+    record {
+      good = good-bare newest (record { number = omega arith; unit = omega arith; lk = λ k e. absurd (none-not k e) });
+      fits = omega (arith, bare-at newest);
+    }
+
+low-zero : (last : ℕ) (w : List ℕ) → ((p : ℕ) → p < 64 → number (page p w) ≡ 0) → noneNewer last (pages w) ≡ true
+low-zero last w h = none-newer last w (λ p k. omega (arith, h p k))
+
+pub built-live : (rs : List (List ℕ)) (f g : ℕ) (d : Lent) → Bytes (d .bytes) → Calls.build f g d .reply ≡ 0
+    → rs ≡ rowsOf 16 (length (d .bytes) / 16) (d .bytes) → Live rs (Calls.build f g d .now) × (24 ≡ Calls.build f g d .now .forced)
+built-live rs f g d b e q =
+    let x : Built f g d = built-of f g d e in
+    let k : ℕ = length (d .bytes) / 16 in
+    let rows : List (List ℕ) = rowsOf 16 k (d .bytes) in
+    let h : 16 * k ≤ length (d .bytes) = omega arith in
+    let l : Laid (layout f g rows) rows =
+    layout-laws f g rows (x .leaf-low) (x .leaf-high) (x .base-low) (x .base-high) (long-rowsOf 16 k (d .bytes) h) (bytes-rowsOf 16 k (d .bytes) b) (x .order)
+    (x .leaves) (x .bases) in
+    let s : Settled store (asked rs) (layout f g rows) newest [] =
+    settled-bare rs (layout f g rows) newest (l .whole) (l .bytes) newest-stored (l .form) (low-zero _ (layout f g rows) (l .stamps)) (l .tree) (l .holds ∙ sym q) in
+    let z = x .is ∙ ap (λ (i : List ℕ). left 0 [] (lent 24 24 (layout f g rows) (layout f g rows) i (d .bytes))) (sym (image-bare newest)) in
+    (subst (λ (y : Left). Live rs (y .now)) (sym z) (live-bare rs (layout f g rows) (d .bytes) newest s), sym (ap (λ (y : Left). y .now .forced) z))

@@ -15,3 +15,4 @@ pub mod Rests
 pub mod Replies
 pub mod OnUnits
 pub mod Demand3
+pub mod Fixed

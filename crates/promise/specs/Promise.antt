@@ -132,3 +132,20 @@ pub record Rests (key : ℕ) (w : List ℕ) : Type 0 where
   pub base : ℕ
   pub leaf : ℕ
   pub enough : (w′ : List ℕ) → page 0 w′ ≡ page 0 w → page base w′ ≡ page base w → page leaf w′ ≡ page leaf w → lookUp key w′ ≡ lookUp key w
+
+-- ---- what contracts fix
+
+-- a call's contract says of what the code leaves, x, that it is what the call's definition leaves: so any two results that it allows are equal,
+-- in the reply, the values, the numbers and every byte of each buffer
+pub record Same (x y : Left) : Type 0 where
+  pub reply : x .reply ≡ y .reply
+  pub values : x .values ≡ y .values
+  pub used : x .now .used ≡ y .now .used
+  pub forced : x .now .forced ≡ y .now .forced
+  pub work : x .now .work ≡ y .now .work
+  pub store : x .now .store ≡ y .now .store
+  pub log : x .now .log ≡ y .now .log
+  pub bytes : x .now .bytes ≡ y .now .bytes
+
+abbrev pub Fixes : Left → Type 0
+Fixes means = (x y : Left) → x ≡ means → y ≡ means → Same x y

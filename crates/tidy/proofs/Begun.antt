@@ -20,7 +20,7 @@ use Rattle.tidy.proofs.Model.{Entry, pointers, All}
 use Rattle.tidy.proofs.Trail.{hit, miss}
 use Rattle.tidy.proofs.Gather.{pagesOf}
 use Rattle.tidy.proofs.Compact.{plan-in-place, plan-new}
-use Rattle.tidy.proofs.Step.{Clear}
+use Rattle.tidy.proofs.Shown.{Clear}
 use Rattle.tidy.proofs.Carry.{Apart}
 
 -- ---- lists of pages

@@ -13,7 +13,8 @@ use Rattle.unit.proofs.Places.{Leafy, StepKeeps, Keeping, one-more}
 use Rattle.tidy.specs.Tidy.{Carried}
 use Rattle.tidy.proofs.Model.{State}
 use Rattle.tidy.proofs.Run.{Run}
-use Rattle.tidy.proofs.Step.{Shows, AllMoved, Clear, Stepped, base-clear, out-step, in-step, point-step, remove-step}
+use Rattle.tidy.proofs.Shown.{Shows, AllMoved, Clear, Stepped, base-clear}
+use Rattle.tidy.proofs.Step.{out-step, in-step, point-step, remove-step}
 
 -- no page is taken out after it was changed
 abbrev pub Apart : List Step → Type 0

@@ -22,9 +22,10 @@ use Rattle.tidy.proofs.Model.{Ascends, pointers, full, beneath, State, 
 use Rattle.tidy.proofs.Trail.{pointers-append}
 use Rattle.tidy.proofs.Entries.{ent, ents, pointers-ents, ascend-keys}
 use Rattle.tidy.proofs.Pages.{sound-page, leafOf, baseOf, rootOf, leaf-at, leaf-not, base-not, page-past, root-form, root-rows}
-use Rattle.tidy.proofs.Step.{Shows}
+use Rattle.tidy.proofs.Shown.{Shows}
 use Rattle.tidy.proofs.Keys.{rowTrail, kept-trail, trail-kept, below-ascends}
-use Rattle.tidy.proofs.Below.{outside, once-at, once-all, zero-to, zero-of, root, leaves, root-is, level-is, root-into, leaves-into, level-ents, records-beneath, trail-base, trail-leaf, bases-asc, leaves-asc, full-base, full-leaf, heads-to, heads-of}
+use Rattle.tidy.proofs.Tests.{outside, once-at, once-all, zero-to, zero-of}
+use Rattle.tidy.proofs.Below.{root, leaves, root-is, level-is, root-into, leaves-into, level-ents, records-beneath, trail-base, trail-leaf, bases-asc, leaves-asc, full-base, full-leaf, heads-to, heads-of}
 
 -- the tree that the pages show
 abbrev pub stateOf : List ℕ → State

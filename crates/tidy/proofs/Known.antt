@@ -20,10 +20,10 @@ use Rattle.tidy.specs.Tidy.{Sound, Tidy, Keeps}
 use Rattle.tidy.proofs.Model.{Entry, pointers, beneath, State, Tree, level, contents, All}
 use Rattle.tidy.proofs.Trail.{eq?, full≤}
 use Rattle.tidy.proofs.Run.{Kept}
-use Rattle.tidy.proofs.Place.{all-join}
+use Rattle.tidy.proofs.Place.{all-map, all-join}
 use Rattle.tidy.proofs.Entries.{ents, pointing-ents}
 use Rattle.tidy.proofs.Pages.{sound-page, leafOf, baseOf, rootOf, leaf-at, leaf-not, base-at, page-past, leaf-form, leaf-rows, rows-empty}
-use Rattle.tidy.proofs.Step.{Shows}
+use Rattle.tidy.proofs.Shown.{Shows}
 use Rattle.tidy.proofs.Carry.{Apart, carry}
 use Rattle.tidy.proofs.Below.{root-into, base-into}
 use Rattle.tidy.proofs.Formed.{stateOf, to-tree, from-tree, records-of, shown-state}
@@ -58,10 +58,6 @@ tally-most lo (suc n) es h = omega (arith, h lo, tally-most (suc lo) n es h)
 all-beneath : (P : Entry → Type 0) (base : ℕ → List Entry) (root : List Entry) → All (λ e. All P (base (e .page))) root → All P (beneath base root)
 all-beneath P base [] h = tt
 all-beneath P base (e ∷ es) h = all-join P (base (e .page)) (beneath base es) (h .0) (all-beneath P base es (h .1))
-
-all-weaken : (P Q : Entry → Type 0) (es : List Entry) → ((e : Entry) → P e → Q e) → All P es → All Q es
-all-weaken P Q [] f h = tt
-all-weaken P Q (e ∷ es) f h = (f e (h .0), all-weaken P Q es f (h .1))
 
 -- ---- tidy pages
 
@@ -106,8 +102,8 @@ module _ (w : List ℕ) (tidy : Tidy w) where
   few-leaves =
       let inside : All (λ e. (8 ≤ e .page) × (e .page < 8 + 56)) (level (rootOf w) (stateOf w)) =
       all-beneath (λ e. (8 ≤ e .page) × (e .page < 8 + 56)) (baseOf w) (rootOf w)
-      (all-weaken (λ e. Basic (e .page)) (λ e. All (λ x. (8 ≤ x .page) × (x .page < 8 + 56)) (baseOf w (e .page))) (rootOf w)
-      (λ e h. all-weaken (λ x. Leafy (x .page)) (λ x. (8 ≤ x .page) × (x .page < 8 + 56)) (baseOf w (e .page)) (λ x k. (k .0, omega (arith, k .1)))
+      (all-map (λ e. Basic (e .page)) (λ e. All (λ x. (8 ≤ x .page) × (x .page < 8 + 56)) (baseOf w (e .page))) (rootOf w)
+      (λ e h. all-map (λ x. Leafy (x .page)) (λ x. (8 ≤ x .page) × (x .page < 8 + 56)) (baseOf w (e .page)) (λ x k. (k .0, omega (arith, k .1)))
       (base-leafy (e .page) h))
       root-basic) in
       omega (arith, tally-length 8 56 (level (rootOf w) (stateOf w)) inside, tally-most 8 56 (level (rootOf w) (stateOf w)) pointed-once)

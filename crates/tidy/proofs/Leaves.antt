@@ -19,7 +19,8 @@ use Rattle.tidy.proofs.Model.{Entry, pointers, beneath, State}
 use Rattle.tidy.proofs.Trail.{eq?, pointers-append}
 use Rattle.tidy.proofs.Entries.{ent, ents}
 use Rattle.tidy.proofs.Pages.{rootOf}
-use Rattle.tidy.proofs.Below.{Into, into, root-is, root-into, under-page, base-into, base-under, leaf-under}
+use Rattle.tidy.proofs.Tests.{Into, into}
+use Rattle.tidy.proofs.Below.{root-is, root-into, under-page, base-into, base-under, leaf-under}
 use Rattle.tidy.proofs.Formed.{stateOf}
 
 module _ (s : State) where

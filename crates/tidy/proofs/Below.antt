@@ -26,27 +26,34 @@ use Rattle.tidy.proofs.Tests.{Into, into, pointing-append, full-ents, f
 -- ---- 64 pages in form
 
 module _ (w : List ℕ) (sound : Sound w) where
+  -- all pages
   abbrev pub ps : List (List ℕ)
   ps = pages w
 
+  -- the root's entries
   abbrev pub root : List (List ℕ)
   root = entries (page 0 w)
 
+  -- the entries of all base pages
   abbrev pub leaves : List (List ℕ)
   leaves = below 8 ps root
 
+  -- the root page is page 0
   pub root-is : rootEntries ps ≡ root
   unfolding rootEntries
   root-is = ap entries (getD-pages 0 w (omega arith))
 
+  -- the level below it
   pub level-is : baseEntries ps ≡ leaves
   unfolding baseEntries
   level-is = ap (below 8 ps) root-is
 
+  -- an entry's page is the page that it points to
   pub under-page : (e : List ℕ) → toPage e < 64 → under ps e ≡ page (toPage e) w
   unfolding under
   under-page e h = getD-pages (toPage e) w h
 
+  -- the root's entries point to base pages
   pub root-into : pointing 1 7 root ≡ true
   root-into = root-pointing (page 0 w) (root-form (page 0 w) (sound-page 0 w sound (omega arith)))
 
@@ -58,6 +65,7 @@ module _ (w : List ℕ) (sound : Sound w) where
       (λ (e : isBase (page p w) ≡ true). base-pointing (page p w) e)
       (base-form p (page p w) h k (sound-page p w sound (omega arith)))
 
+  -- the entries of base pages point to leaf pages
   level-into : (es : List (List ℕ)) → pointing 1 7 es ≡ true → pointing 8 63 (below 8 ps es) ≡ true
   unfolding below
   level-into [] h = unfold pointing in refl
@@ -66,6 +74,7 @@ module _ (w : List ℕ) (sound : Sound w) where
       pointing-append 8 63 (rows 8 (under ps e)) (below 8 ps es)
       (rw (under-page e (omega (arith, i .high))) (base-into (toPage e) (i .low) (i .high))) (level-into es (i .rest))
 
+  -- so do all of them
   pub leaves-into : pointing 8 63 leaves ≡ true
   leaves-into = level-into root root-into
 
@@ -73,9 +82,11 @@ module _ (w : List ℕ) (sound : Sound w) where
   pub base-under : (e : List ℕ) → 1 ≤ toPage e → toPage e ≤ 7 → baseOf w (toPage e) ≡ ents (rows 8 (under ps e))
   base-under e h k = base-at w (toPage e) h k ∙ ap (λ (pg : List ℕ). ents (rows 8 pg)) (sym (under-page e (omega arith)))
 
+  -- the records below an entry are those of the state
   pub leaf-under : (e : List ℕ) → 8 ≤ toPage e → toPage e ≤ 63 → leafOf w (toPage e) ≡ rows 16 (under ps e)
   leaf-under e h k = leaf-at w (toPage e) h ∙ ap (rows 16) (sym (under-page e (omega arith)))
 
+  -- all entries of base pages are what stands below the root's
   pub level-ents : (es : List (List ℕ)) → pointing 1 7 es ≡ true → ents (below 8 ps es) ≡ beneath (baseOf w) (ents es)
   unfolding below
   level-ents [] h = refl
@@ -84,6 +95,7 @@ module _ (w : List ℕ) (sound : Sound w) where
       map-append ent (rows 8 (under ps e)) (below 8 ps es)
       ∙ ap₂ (λ (x y : List Entry). x ++ y) (sym (base-under e (i .low) (i .high))) (level-ents es (i .rest))
 
+  -- all records are what stands below those
   pub records-beneath : (es : List (List ℕ)) → pointing 8 63 es ≡ true → below 16 ps es ≡ beneath (leafOf w) (ents es)
   unfolding below
   records-beneath [] h = refl
@@ -96,6 +108,7 @@ module _ (w : List ℕ) (sound : Sound w) where
   marks-ents [] = refl
   marks-ents (r ∷ rs) = ap (λ (l : List ℕ). (2 * keyOf r + 1) ∷ l) (marks-ents rs)
 
+  -- the trail over base pages is that of the state
   pub trail-base : (es : List (List ℕ)) → pointing 1 7 es ≡ true → trail entry-key (baseOf w) (ents es) ≡ rowTrail 8 ps es
   trail-base [] h = refl
   trail-base (e ∷ es) h =
@@ -103,6 +116,7 @@ module _ (w : List ℕ) (sound : Sound w) where
       ap₂ (λ (x y : List ℕ). 2 * keyOf e ∷ (x ++ y))
       (ap (marks entry-key) (base-under e (i .low) (i .high)) ∙ marks-ents (rows 8 (under ps e))) (trail-base es (i .rest))
 
+  -- the trail over leaf pages
   pub trail-leaf : (es : List (List ℕ)) → pointing 8 63 es ≡ true → trail keyOf (leafOf w) (ents es) ≡ rowTrail 16 ps es
   trail-leaf [] h = refl
   trail-leaf (e ∷ es) h =
@@ -117,6 +131,7 @@ module _ (w : List ℕ) (sound : Sound w) where
       (λ (e : isBase (page p w) ≡ true). ascend-keys 101 110 0 (entries (page p w)) (base-rows (page p w) e .order))
       (base-form p (page p w) h k (sound-page p w sound (omega arith)))
 
+  -- the keys in a leaf ascend
   leaf-asc : (p : ℕ) → 8 ≤ p → p ≤ 63 → Ascends 0 (map keyOf (records (page p w)))
   leaf-asc p h k =
       ⊎-elim
@@ -124,12 +139,14 @@ module _ (w : List ℕ) (sound : Sound w) where
       (λ (e : isLeaf (page p w) ≡ true). ascend-keys 114 99 0 (records (page p w)) (leaf-rows (page p w) e .order))
       (leaf-form p (page p w) h (sound-page p w sound (omega arith)))
 
+  -- so they do in every base page below the root's entries
   pub bases-asc : (es : List (List ℕ)) → pointing 1 7 es ≡ true → Each (λ e. Ascends 0 (map keyOf (rowsUnder 8 ps e))) es
   bases-asc [] h = Each.nil
   bases-asc (e ∷ es) h =
       let i : Into 1 7 e es = into 1 7 e es h in
       Each.cons {r = e} (rw (under-page e (omega (arith, i .high))) (base-asc (toPage e) (i .low) (i .high))) (bases-asc es (i .rest))
 
+  -- and in every leaf below the entries of base pages
   pub leaves-asc : (es : List (List ℕ)) → pointing 8 63 es ≡ true → Each (λ e. Ascends 0 (map keyOf (rowsUnder 16 ps e))) es
   leaves-asc [] h = Each.nil
   leaves-asc (e ∷ es) h =
@@ -145,6 +162,7 @@ module _ (w : List ℕ) (sound : Sound w) where
       (⊎-elim (λ (e : isEmpty (page p w) ≡ true). inl e) (λ (e : isBase (page p w) ≡ true). inr (base-rows (page p w) e .enough))
       (base-form p (page p w) h k (sound-page p w sound (omega arith))))
 
+  -- the same of a leaf page
   pub full-leaf : (p : ℕ) → 8 ≤ p → p ≤ 63 → full (leafOf w p) ≡ pick (isEmpty (page p w)) 0 1
   full-leaf p h k =
       ap full (leaf-at w p h)
@@ -162,6 +180,7 @@ module _ (w : List ℕ) (sound : Sound w) where
         heads-to es (i .rest) (both-2 _ _ e),
       )
 
+  -- and back
   pub heads-of : (es : List (List ℕ)) → pointing 1 7 es ≡ true → Heads (baseOf w) (ents es) → headed ps es ≡ true
   unfolding headed
   heads-of [] h e = refl

@@ -22,6 +22,7 @@ use Rattle.tidy.proofs.Trail.{miss}
 use Rattle.tidy.proofs.Gather.{pagesOf}
 use Rattle.tidy.proofs.Leaves.{leafFor, leavesAll}
 
+-- nothing is no begin record
 none-some : {g : Begin} → none ≡ some g → ⊥
 none-some e = let z : _≡_ {A = ℕ} 0 1 = cc in omega arith
 
@@ -38,6 +39,7 @@ pub record Compacted (u fill : ℕ) (ps : List (List ℕ)) (ls : List Leaf) (g :
   pub two : 2 ≤ length (group fill first next)
   pub is : g ≡ compactOf u fill first (group fill first next) (lowestEmpty low (first .at) 0 ps)
 
+-- the larger of two is no lower than the first
 larger-low : (a b : ℕ) → 7 ≤ a → 7 ≤ larger a b
 unfolding larger
 larger-low a b h = go (leb a b) refl
@@ -46,6 +48,7 @@ larger-low a b h = go (leb a b) refl
     go true e = unfold pick in (omega (arith, leb-true a b e))
     go false e = unfold pick in h
 
+-- what begin compact chooses is such a C
 pub compacted : (u fill low : ℕ) (lk : Option ℕ) (ps : List (List ℕ)) (ls : List Leaf) (g : Begin) → 7 ≤ low
     → chooseCompact u fill low lk ps ls ≡ some g → Compacted u fill ps ls g
 unfolding chooseCompact
@@ -123,10 +126,12 @@ module _ (s : State) where
   Elsewhere b [] = Unit {0}
   Elsewhere b (l ∷ ls) = l .base ≢ b
 
+  -- nor has one in a page in front
   page-elsewhere : (b c : ℕ) (es : List Entry) (ls : List Leaf) → c ≢ b → Elsewhere b ls → Elsewhere b (map (leafFor s c) es ++ ls)
   page-elsewhere b c [] ls d h = h
   page-elsewhere b c (e ∷ es) ls d h = d
 
+  -- where the root entries do not point to b
   pub elsewhere : (b : ℕ) (root : List Entry) → pointers b root ≡ 0 → Elsewhere b (leavesAll s root)
   elsewhere b [] h = tt
   elsewhere b (e ∷ es) h =
@@ -141,9 +146,11 @@ module _ (s : State) where
     pub few : length with ≤ n
     pub fits : (with ≡ []) ⊎ (sum + weight (s .leaf) with ≤ fill)
 
+  -- none joins
   none-join : (fill sum n : ℕ) (zs : List Entry) (joined : List ℕ) → joined ≡ [] → Joins fill sum n zs joined
   none-join fill sum n zs joined e = record { with = []; rest = zs; cut = refl; is = e; few = omega arith; fits = inl refl }
 
+  -- so it is with those that `joining` takes
   pub joins : (fill b sum n : ℕ) (zs : List Entry) (ls : List Leaf) → Elsewhere b ls
       → Joins fill sum n zs (joining fill b sum n (map (leafFor s b) zs ++ ls))
   unfolding joining
@@ -185,6 +192,7 @@ pub record Ordered (u : ℕ) (ps : List (List ℕ)) (ls : List Leaf) (i : ℕ) (
   pub misplaced : leaf .at ≢ place (i + length before)
   pub is : g ≡ putInOrder u (place (i + length before)) ps ls leaf
 
+-- what begin order chooses is such a leaf
 pub ordered : (u : ℕ) (ps : List (List ℕ)) (ls : List Leaf) (i : ℕ) (rest : List Leaf) (g : Begin) → chooseOrder u ps ls i rest ≡ some g
     → Ordered u ps ls i rest g
 unfolding chooseOrder

@@ -24,4 +24,5 @@ pub mod Chosen
 pub mod Begun
 pub mod Known
 pub mod Group
+pub mod Logged
 pub mod Theorem

@@ -56,6 +56,7 @@ pub record Stepped (n : ℕ) (did : List Rec) (x : Step) (xs : List Step) (w : L
 -- ---- what a page replaced leaves of the room
 
 module _ (p : ℕ) (pg w : List ℕ) (sound : Sound w) (small : p < 64) (long : length pg ≡ 256) where
+  -- where none of the steps takes that page out
   pub room-put : (xs : List Step) → Clear p xs → room (putPage p pg w) xs ≡ room w xs
   unfolding room stepSize
   room-put [] c = refl
@@ -75,6 +76,7 @@ base-clear p h (one-more {x = close u} k ks) = base-clear p h ks
 -- ---- a leaf page replaced, a base page replaced
 
 module _ (w : List ℕ) (l : ℕ → List (List ℕ)) (b : ℕ → List Entry) (sh : Shows w (state l b)) (p : ℕ) (pg : List ℕ) (long : length pg ≡ 256) (bytes : Bytes pg) where
+  -- the tree with a leaf replaced
   pub shows-leaf : Leafy p → formed p pg ≡ true → (v : List (List ℕ)) → records pg ≡ v → Shows (putPage p pg w) (state (upd l p v) b)
   shows-leaf h f v e =
       let small : p < 64 = omega (arith, h .1) in
@@ -84,6 +86,7 @@ module _ (w : List ℕ) (l : ℕ → List (List ℕ)) (b : ℕ → List Entry) (
         bases = λ q. sh .bases q ∙ put-leaf-base p pg w (sh .sound) small long (h .0) q;
       }
 
+  -- the tree with a base page replaced
   pub shows-base : Basic p → formed p pg ≡ true → (v : List Entry) → ents (entries pg) ≡ v → Shows (putPage p pg w) (state l (upd b p v))
   shows-base h f v e =
       let small : p < 64 = omega (arith, h .1) in

@@ -46,6 +46,7 @@ module _ (n : ℕ) (did : List Rec) (xs : List Step) (w : List ℕ) (l : ℕ →
       (λ (e : isLeaf (page p w) ≡ true). e)
       (leaf-form p (page p w) (h .0) (sound-page p w (sh .sound) (omega (arith, h .1))))
 
+  -- its records are rows that an LI can append
   leaf-moved : (p : ℕ) → Leafy p → 1 ≤ full (l p) → Moved (records (page p w))
   leaf-moved p h f =
       let g : Fill leaf (records (page p w)) = leaf-rows (page p w) (is-leaf p h f) in
@@ -57,6 +58,7 @@ module _ (n : ℕ) (did : List Rec) (xs : List Step) (w : List ℕ) (l : ℕ →
         order = g .order;
       }
 
+  -- an LO
   pub out-step : (p d : ℕ) → Leafy p → Clear p xs → 1 ≤ full (l p)
       → Stepped n did (takeOut p d) xs w (LO p d (l p)) (state (upd l p []) b) × Moved (l p)
   unfolding nextRec targetOf pageOf stepSize size kindOf carried target change emptied isEmpty
@@ -91,6 +93,7 @@ in-order a b lo (r ∷ rs) (Each.cons m ms) h =
     let k : suc (keyOf r) ≡ keyOf r + 1 = omega arith in
     ascend-of a b lo r rs (record { one = m .0; two = m .1; low = h .0; after = in-order a b (keyOf r + 1) rs ms (rw k at (h .1)) })
 
+-- rows in order bear marks
 marked : (a b lo : ℕ) (rs : List (List ℕ)) → ascend a b lo rs ≡ true → Each (λ r. (getD r 0 0 ≡ a) × (getD r 1 0 ≡ b)) rs
 marked a b lo [] e = Each.nil
 marked a b lo (r ∷ rs) e = let f : First a b lo r rs = ascend-facts a b lo r rs e in Each.cons (f .one, f .two) (marked a b (keyOf r + 1) rs (f .after))
@@ -116,6 +119,7 @@ module _ (n : ℕ) (did : List Rec) (xs : List Step) (w : List ℕ) (l : ℕ →
       (λ (e : isLeaf (page p w) ≡ true). leaf-rows (page p w) e .order)
       (leaf-form p (page p w) (h .0) (sound-page p w (sh .sound) (omega (arith, h .1))))
 
+  -- an LI
   pub in-step : (p d back : ℕ) (v : List (List ℕ)) → Leafy d → Clear d xs → AllMoved did → v ≡ taken back did → 1 ≤ full v → length (l d ++ v) ≤ 15
       → Ascends 0 (map keyOf (l d ++ v)) → Stepped n did (bringIn p d back) xs w (LI p d back v) (state (upd l d (l d ++ v)) b)
   unfolding nextRec targetOf pageOf stepSize size kindOf carried target change appended taken
@@ -155,15 +159,19 @@ module _ (n : ℕ) (did : List Rec) (xs : List Step) (w : List ℕ) (l : ℕ →
   -- ---- LM
 
   module _ (q old k : ℕ) (other : Bool) (h : Basic q) (c : Clear q xs) (found : lowest (skipped other did) old (b q) ≡ some k) where
+    -- the entries that the page shows
     shown : b q ≡ ents (entries (page q w))
     shown = sh .bases q ∙ base-at w q (h .0) (h .1)
 
+    -- the LM's key is found among the rows
     found-rows : lowestTo (skipped other did) old (entries (page q w)) ≡ some k
     found-rows = lowest-ents (skipped other did) old (entries (page q w)) ∙ ap (lowest (skipped other did) old) (sym shown) ∙ found
 
+    -- the entry is there
     there : has k old (entries (page q w)) ≡ true
     there = lowest-has (skipped other did) old k (entries (page q w)) found-rows
 
+    -- so the page is a base page
     is-base : isBase (page q w) ≡ true
     unfolding has
     is-base =
@@ -189,6 +197,7 @@ module _ (n : ℕ) (did : List Rec) (xs : List Step) (w : List ℕ) (l : ℕ →
           top = put-root q pg′ w (sh .sound) small (ch .whole) (h .0);
         }
 
+    -- an LM that points elsewhere
     pub point-step : (new : ℕ) → Leafy new → Stepped n did (point q old new other) xs w (LM q old new k) (state l (upd b q (map (redirect k old new) (b q))))
     unfolding redirected change
     point-step new to =
@@ -203,6 +212,7 @@ module _ (n : ℕ) (did : List Rec) (xs : List Step) (w : List ℕ) (l : ℕ →
         (bytes-redirected n k old new pg pg′ made-so (bytes-page q w (sh .sound .bytes))) (ch .0) (ch .1)
         (redirect-ents k old new (entries pg) (omega (arith, to .1)) (g .long) ∙ ap (map (redirect k old new)) (sym shown))
 
+    -- an LM that removes
     pub remove-step : 2 ≤ length (b q) → Stepped n did (point q old 0 other) xs w (LM q old 0 k) (state l (upd b q (strip k old (b q))))
     unfolding removed change
     remove-step two =

@@ -23,17 +23,20 @@ use Rattle.tidy.proofs.Pages.{rows-empty}
 
 -- ---- entries that point into a region
 
+-- what the test says of the first entry, and of the others
 pub record Into (from to : ℕ) (e : List ℕ) (es : List (List ℕ)) : Type 0 where
   pub low : from ≤ toPage e
   pub high : toPage e ≤ to
   pub rest : pointing from to es ≡ true
 
+-- the test taken apart
 pub into : (from to : ℕ) (e : List ℕ) (es : List (List ℕ)) → pointing from to (e ∷ es) ≡ true → Into from to e es
 unfolding pointing
 into from to e es h =
     let h1 = both-2 _ _ h in
     record { low = leb-true from (toPage e) (both-1 _ _ h); high = leb-true (toPage e) to (both-1 _ _ h1); rest = both-2 _ _ h1 }
 
+-- entries of two lists
 pub pointing-append : (from to : ℕ) (a b : List (List ℕ)) → pointing from to a ≡ true → pointing from to b ≡ true → pointing from to (a ++ b) ≡ true
 unfolding pointing
 pointing-append from to [] b h k = k
@@ -51,6 +54,7 @@ outside from to p (e ∷ es) h s =
 
 -- ---- pages that hold something
 
+-- a page with rows is not empty
 never-both : (pg : List ℕ) → 1 ≤ count pg → isEmpty pg ≡ false
 unfolding isEmpty
 never-both pg h = by-test (isEmpty pg) refl
@@ -59,10 +63,12 @@ never-both pg h = by-test (isEmpty pg) refl
     by-test true e = absurd (omega (arith, shaped-facts empty pg e .room))
     by-test false e = refl
 
+-- a list that has something is full
 pub full-length : {A : Type 0} (xs : List A) → 1 ≤ length xs → full xs ≡ 1
 full-length [] h = absurd (omega arith)
 full-length (x ∷ xs) h = refl
 
+-- rows and pairs are full alike
 pub full-ents : (es : List (List ℕ)) → full (ents es) ≡ full es
 full-ents [] = refl
 full-ents (e ∷ es) = refl
@@ -78,6 +84,7 @@ full-rows sz pg s =
 
 -- ---- "every non-empty page is pointed to exactly once, an empty page never", page by page
 
+-- what the test says of page i of those given
 pub once-at : (es : List (List ℕ)) (p i : ℕ) (pgs : List (List ℕ)) → pointedOnce es p pgs ≡ true → i < length pgs
     → T.pointers (p + i) es ≡ pick (isEmpty (getD pgs i [])) 0 1
 unfolding pointedOnce
@@ -87,6 +94,7 @@ once-at es p (suc i) (pg ∷ pgs) e h =
     let q : p + suc i ≡ p + 1 + i = omega arith in
     rw q (once-at es (p + 1) i pgs (both-2 _ _ e) (omega arith))
 
+-- and back
 pub once-all : (es : List (List ℕ)) (p : ℕ) (pgs : List (List ℕ)) → ((i : ℕ) → i < length pgs → T.pointers (p + i) es ≡ pick (isEmpty (getD pgs i [])) 0 1)
     → pointedOnce es p pgs ≡ true
 unfolding pointedOnce
@@ -99,16 +107,19 @@ once-all es p (pg ∷ pgs) f =
 
 -- ---- the first keys
 
+-- the key of the first entry
 pub first-ents : (es : List (List ℕ)) → first (ents es) ≡ keyOf (getD es 0 [])
 unfolding keyOf le4
 first-ents [] = refl
 first-ents (e ∷ es) = refl
 
+-- "the first root entry has key 0"
 pub zero-to : (es : List (List ℕ)) → startsAtZero es ≡ true → first (ents es) ≡ 0
 unfolding startsAtZero
 zero-to [] e = refl
 zero-to (r ∷ es) e = eqb-true (keyOf r) 0 e
 
+-- and back
 pub zero-of : (es : List (List ℕ)) → first (ents es) ≡ 0 → startsAtZero es ≡ true
 unfolding startsAtZero
 zero-of [] e = refl

@@ -41,16 +41,19 @@ use Rattle.tidy.proofs.Known.{sound, tree, root-basic, base-leafy, leaf
 
 -- ---- the plans of the begin records
 
+-- a compact
 plan-compact : (u fill b : ℕ) (leaves : List ℕ) (d : ℕ) → plan (compactBegin u fill b leaves d) ≡ compactPlan b d leaves ++ (close u ∷ [])
 unfolding plan
 plan-compact u fill b leaves d = ap (λ (l : List Step). l ++ (close u ∷ [])) (pick-true (eqb 1 1) _ _ (eq-eqb 1 1 refl))
 
+-- a move
 plan-move : (u b a d : ℕ) → plan (moveBegin u b a d) ≡ movePlan b a d ++ (close u ∷ [])
 unfolding plan
 plan-move u b a d =
     ap (λ (l : List Step). l ++ (close u ∷ []))
     (pick-false (eqb 3 1) _ _ (ne-eqb 3 1 (λ z. omega arith)) ∙ pick-false (eqb 3 2) _ _ (ne-eqb 3 2 (λ z. omega arith)))
 
+-- a swap
 plan-swap : (u p q a b : ℕ) → plan (swapBegin u p q a b) ≡ swapPlan p q a b ++ (close u ∷ [])
 unfolding plan
 plan-swap u p q a b =
@@ -63,9 +66,11 @@ plan-swap u p q a b =
     read = rw (bases-read p q .0, bases-read p q .1)
 
 module _ (w : List ℕ) (tidy : Tidy w) where
+  -- the tree that the pages show
   abbrev s : State
   s = stateOf w
 
+  -- the root's entries
   abbrev root : List Entry
   root = rootOf w
 
@@ -75,14 +80,17 @@ module _ (w : List ℕ) (tidy : Tidy w) where
   module _ (n u fill : ℕ) (r₁ : List Entry) (e : Entry) (r₂ xs : List Entry) (x : Entry) (ds ys : List Entry) (roots : root ≡ r₁ ++ e ∷ r₂)
       (here : s .base (e .page) ≡ xs ++ x ∷ (ds ++ ys)) (hu : u ≤ most4) (f1 : 1 ≤ fill) (f15 : fill ≤ 15) (l1 : 1 ≤ length ds) (l7 : length ds ≤ 7)
       (fits : weight (s .leaf) (x ∷ ds) ≤ 15) where
+    -- the base page keeps to its region
     basic : Basic (e .page)
     basic = all-back (λ r. Basic (r .page)) r₁ (e ∷ r₂) (subst (All (λ r. Basic (r .page))) roots (root-basic w tidy)) .0
 
+    -- so do the listed leaves
     leafy : All (λ r. Leafy (r .page)) (x ∷ ds)
     leafy =
         let a = all-back (λ r. Leafy (r .page)) xs (x ∷ (ds ++ ys)) (subst (All (λ r. Leafy (r .page))) here (base-leafy w tidy (e .page) basic)) in
         (a .0, all-front (λ r. Leafy (r .page)) ds ys (a .1))
 
+    -- they differ
     once : (p : ℕ) → pointers p (x ∷ ds) ≤ 1
     once p =
         omega (
@@ -93,12 +101,15 @@ module _ (w : List ℕ) (tidy : Tidy w) where
           pointers-append p ds ys,
         )
 
+    -- the tree, with the root's entries taken apart
     tree-here : Tree (r₁ ++ e ∷ r₂) s
     tree-here = subst (λ (r : List Entry). Tree r s) roots (tree w tidy)
 
+    -- and put together again
     kept-back : (todo : List Step) → Kept (r₁ ++ e ∷ r₂) todo s → Kept root todo s
     kept-back todo k = subst (λ (r : List Entry). Kept r todo s) (sym roots) k
 
+    -- the unit in place
     in-place : n + length (plan (compactBegin u fill (e .page) (pagesOf (x ∷ ds)) (x .page))) ≤ 4294967296
         → Keeps n (compactBegin u fill (e .page) (pagesOf (x ∷ ds)) (x .page)) w
     in-place few =
@@ -108,6 +119,7 @@ module _ (w : List ℕ) (tidy : Tidy w) where
         (rw q (apart-compact (e .page) u x ds once)) few
         (rw q (kept-back _ (compact r₁ e r₂ xs x ds ys s tree-here here u fits)))
 
+    -- the unit to a new place
     new-place : (d : ℕ) → Leafy d → x .page ≢ d → leafOf w d ≡ [] → n + length (plan (compactBegin u fill (e .page) (pagesOf (x ∷ ds)) d)) ≤ 4294967296
         → Keeps n (compactBegin u fill (e .page) (pagesOf (x ∷ ds)) d) w
     new-place d hd apart clear few =
@@ -161,11 +173,13 @@ module _ (w : List ℕ) (tidy : Tidy w) where
   spot-basic : (c : Leaf) (next : List Leaf) (p : Spot s root c next) → Basic (p .top .page)
   spot-basic c next p = all-back (λ r. Basic (r .page)) (p .left) (p .top ∷ p .right) (subst (All (λ r. Basic (r .page))) (p .roots) (root-basic w tidy)) .0
 
+  -- the leaf's own page
   spot-leafy : (c : Leaf) (next : List Leaf) (p : Spot s root c next) → Leafy (p .entry .page)
   spot-leafy c next p =
       all-back (λ r. Leafy (r .page)) (p .before) (p .entry ∷ p .after)
       (subst (All (λ r. Leafy (r .page))) (p .entries) (base-leafy w tidy (p .top .page) (spot-basic c next p))) .0
 
+  -- a leaf moved to an empty page
   moves : (n u : ℕ) (c : Leaf) (next : List Leaf) (p : Spot s root c next) (d : ℕ) → u ≤ most4 → Leafy d → p .entry .page ≢ d → isEmpty (page d w) ≡ true
       → n + length (plan (moveBegin u (p .top .page) (p .entry .page) d)) ≤ 4294967296 → Keeps n (moveBegin u (p .top .page) (p .entry .page) d) w
   moves n u c next p d hu hd apart blank few =
@@ -202,18 +216,22 @@ module _ (w : List ℕ) (tidy : Tidy w) where
       stands s d (leavesAll s root) (omega (arith, standing-all s d root, tree w tidy .lower .pointed d))
 
   module _ (n u : ℕ) (g : Begin) (hu : u ≤ most4) (few : n + length (plan g) ≤ 4294967296) (o : Ordered u (pages w) (leavesOf (pages w)) 0 (leavesOf (pages w)) g) where
+    -- the page where the leaf belongs
     abbrev wanted : ℕ
     wanted = place (0 + length (o .before))
 
+    -- where the leaf stands
     p : Spot s root (o .leaf) (o .next)
     p = spot s root (o .before) (o .leaf) (o .next) (sym (leaves-of w (sound w tidy)) ∙ o .all-leaves)
 
+    -- there is such a page
     wanted-leafy : Leafy wanted
     unfolding place
     wanted-leafy =
         let k = ap length (sym (leaves-of w (sound w tidy)) ∙ o .all-leaves) ∙ length-append (o .before) (o .leaf ∷ o .next) in
         (omega arith, omega (arith, k, length-leaves s root, few-leaves w tidy))
 
+    -- the leaf stands elsewhere
     apart : p .entry .page ≢ wanted
     apart q = o .misplaced (ap (λ (l : Leaf). l .at) (p .leaf) ∙ q)
 
@@ -244,6 +262,7 @@ module _ (w : List ℕ) (tidy : Tidy w) where
         subst (λ (h : Begin). Keeps n h w) (sym is)
         (swaps n u (a .leaf) (o .leaf) (a .after) (o .next) q p hu (λ z. apart (sym z ∙ on)) (subst (λ (h : Begin). n + length (plan h) ≤ 4294967296) is few))
 
+    -- either way
     in-order : Keeps n g w
     in-order = by-test (isEmpty (page wanted w)) refl
       where
@@ -258,8 +277,10 @@ module _ (w : List ℕ) (tidy : Tidy w) where
 
 -- ---- the theorem
 
+-- for begin compact
 pub compact-keeps : CompactKeeps
 compact-keeps w tidy n unit fill lk g hu hf chosen few = by-compact w tidy n unit fill lk g hu hf chosen few
 
+-- for begin order
 pub order-keeps : OrderKeeps
 order-keeps w tidy n unit g hu chosen few = by-order w tidy n unit g hu chosen few

@@ -61,6 +61,7 @@ CompactKeeps =
     (w : List ℕ) → Tidy w → (n unit fill : ℕ) (lk : Option ℕ) (g : Begin) → unit ≤ most4 → fill ≤ 15 → compactUnit unit fill lk (pages w) ≡ some g
     → n + length (plan g) ≤ most4 + 1 → Keeps n g w
 
+-- the same for begin order
 abbrev pub OrderKeeps : Type 0
 OrderKeeps =
     (w : List ℕ) → Tidy w → (n unit : ℕ) (g : Begin) → unit ≤ most4 → orderUnit unit (pages w) ≡ some g → n + length (plan g) ≤ most4 + 1 → Keeps n g w

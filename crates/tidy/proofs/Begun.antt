@@ -126,21 +126,19 @@ move-ok u b a d hu hb ha hd n =
 -- one base page or two
 two-bases : (p q : ℕ) → Basic p → Basic q
     → (within 1 7 (oneOrTwo p q) ≡ true) × (differ (oneOrTwo p q) ≡ true) × (1 ≤ length (oneOrTwo p q)) × (length (oneOrTwo p q) ≤ 2)
-unfolding oneOrTwo
+unfolding oneOrTwo pick
 two-bases p q hp hq = go (eqb p q) refl
   where
     go : (t : Bool) → eqb p q ≡ t → (within 1 7 (pick t (p ∷ []) (p ∷ q ∷ [])) ≡ true) × (differ (pick t (p ∷ []) (p ∷ q ∷ [])) ≡ true)
         × (1 ≤ length (pick t (p ∷ []) (p ∷ q ∷ []))) × (length (pick t (p ∷ []) (p ∷ q ∷ [])) ≤ 2)
     go true e =
-        rw (pick-true true (p ∷ []) (p ∷ q ∷ []) refl)
         (within-cons 1 7 p [] (hp .0) (hp .1) (within-nil 1 7), differ-one p, omega arith, omega arith)
-    go false e =
-        rw (pick-false false (p ∷ []) (p ∷ q ∷ []) refl) (
-          within-cons 1 7 p (q ∷ []) (hp .0) (hp .1) (within-cons 1 7 q [] (hq .0) (hq .1) (within-nil 1 7)),
-          differ-two p q (eqb-false p q e),
-          omega arith,
-          omega arith,
-        )
+    go false e = (
+      within-cons 1 7 p (q ∷ []) (hp .0) (hp .1) (within-cons 1 7 q [] (hq .0) (hq .1) (within-nil 1 7)),
+      differ-two p q (eqb-false p q e),
+      omega arith,
+      omega arith,
+    )
 
 -- a swap's
 pub swap-ok : (u p q a b : ℕ) → u ≤ most4 → Basic p → Basic q → Leafy a → Leafy b → a ≢ b → beginOk (swapBegin u p q a b) ≡ true
@@ -158,12 +156,12 @@ swap-ok u p q a b hu hp hq ha hb n =
 
 -- the base pages that the plan of a swap reads off
 pub bases-read : (p q : ℕ) → (getD (oneOrTwo p q) 0 0 ≡ p) × (getD (oneOrTwo p q) 1 p ≡ q)
-unfolding oneOrTwo
+unfolding oneOrTwo pick
 bases-read p q = go (eqb p q) refl
   where
     go : (t : Bool) → eqb p q ≡ t → (getD (pick t (p ∷ []) (p ∷ q ∷ [])) 0 0 ≡ p) × (getD (pick t (p ∷ []) (p ∷ q ∷ [])) 1 p ≡ q)
-    go true e = rw (pick-true true (p ∷ []) (p ∷ q ∷ []) refl) (refl, eqb-true p q e)
-    go false e = rw (pick-false false (p ∷ []) (p ∷ q ∷ []) refl) (refl, refl)
+    go true e = (refl, eqb-true p q e)
+    go false e = (refl, refl)
 
 -- ---- no page is taken out after it was changed
 
@@ -182,16 +180,14 @@ apart-removals q u (r ∷ ps) = apart-removals q u ps
 module _ (zs : List Step) (c : ℕ) where
   -- gathering takes out the listed pages only
   clear-gather : (p : ℕ) (ds : List Entry) → pointers p ds ≡ 0 → Clear p zs → Clear p (gather c (pagesOf ds) ++ zs)
-  unfolding gather
+  unfolding gather pick
   clear-gather p [] h k = k
   clear-gather p (d ∷ ds) h k = go (eqb (d .page) c) (clear-gather p ds (omega arith) k)
     where
       go : (t : Bool) → Clear p (gather c (pagesOf ds) ++ zs)
           → Clear p (pick t (gather c (pagesOf ds)) (takeOut (d .page) c ∷ bringIn (d .page) c 1 ∷ gather c (pagesOf ds)) ++ zs)
-      go true r = rw (pick-true true (gather c (pagesOf ds)) (takeOut (d .page) c ∷ bringIn (d .page) c 1 ∷ gather c (pagesOf ds)) refl) r
-      go false r =
-          rw (pick-false false (gather c (pagesOf ds)) (takeOut (d .page) c ∷ bringIn (d .page) c 1 ∷ gather c (pagesOf ds)) refl)
-          (eqb-false (d .page) p (miss (eqb (d .page) p) _ h), r)
+      go true r = r
+      go false r = (eqb-false (d .page) p (miss (eqb (d .page) p) _ h), r)
 
   -- pages that differ, gathered into another one
   apart-gather : (ds : List Entry) → pointers c ds ≡ 0 → ((p : ℕ) → pointers p ds ≤ 1) → ((p : ℕ) → Clear p zs) → Apart zs → Apart (gather c (pagesOf ds) ++ zs)

@@ -4,7 +4,7 @@ use Prim.Native.Nat.{ℕ, suc, _+_, _≤_}
 use native.Mathlib.Omega.{arith}
 use mathlib.Core.Path.{_≡_, refl, sym, ap, _∙_, subst}
 use mathlib.Core.List.{List, [], _∷_}
-use mathlib.Core.Option.{Option, some, none}
+use mathlib.Core.Option.{Option, some, none, Option·some-injective}
 use lib.ListN.{length, drop}
 use Rattle.field.specs.Test.{bind}
 use Rattle.field.specs.Bytes.{Bytes, most4}
@@ -15,7 +15,7 @@ use Rattle.log.specs.Plan.{Step, close, plan}
 use Rattle.log.specs.Log.{Open, State, going, openedBy, after, afterAll}
 use Rattle.log.proofs.Plan.{Works, works-out, works-in, works-point, Ending, last, more, plan-ending}
 use Rattle.log.proofs.Valid.{Does, does-out, does-in, does-point, does-close, Follows, begins, goes, Fits, Valid, nil, cons}
-use Rattle.unit.specs.Next.{targetOf, pageOf, stepSize, room}
+use Rattle.unit.specs.Next.{apply, targetOf, pageOf, nextRec, stepSize, room}
 use Rattle.tidy.specs.Tidy.{Tidy, Carried, done, step, Keeps}
 use Rattle.tidy.proofs.Next.{next-does}
 
@@ -90,3 +90,16 @@ carried-at s (step {x = x} {xs = xs} {w = w} {v = v} {r = r} f next a z q sd c) 
   where
     sum : s .at + size r + room v xs ≡ s .at + (stepSize w x + room w xs)
     sum = omega arith
+
+-- ---- from the middle of a unit
+
+-- a step can be made in one way only: after it the other steps are carried out from where it led
+pub carried-next : {n : ℕ} {did : List Rec} {x : Step} {xs : List Step} {w w′ : List ℕ} {rs : List Rec} (r : Rec) (v : List ℕ) → Carried n did (x ∷ xs) w w′ rs
+    → nextRec x did (pageOf (targetOf x) w) ≡ some r → apply n r w ≡ some v → (qs : List Rec) × (rs ≡ r ∷ qs) × Carried (n + 1) (r ∷ did) xs v w′ qs
+carried-next {n} {did} {x} {xs} {w} {w′} r v (step {v = v₀} {r = r₀} {rs = qs} f next a z q sd c) e made =
+    let same-rec : r₀ ≡ r = Option·some-injective r₀ r (sym next ∙ e) in
+    let same-pages : v₀ ≡ v = Option·some-injective v₀ v (sym a ∙ ap (λ (t : Rec). apply n t w) same-rec ∙ made) in (
+      qs,
+      ap (λ (t : Rec). t ∷ qs) same-rec,
+      subst (λ (t : Rec). Carried (n + 1) (t ∷ did) xs v w′ qs) same-rec (subst (λ (p : List ℕ). Carried (n + 1) (r₀ ∷ did) xs p w′ qs) same-pages c),
+    )

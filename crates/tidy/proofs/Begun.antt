@@ -20,19 +20,22 @@ use Rattle.tidy.proofs.Model.{Entry, pointers, All}
 use Rattle.tidy.proofs.Trail.{hit, miss}
 use Rattle.tidy.proofs.Gather.{pagesOf}
 use Rattle.tidy.proofs.Compact.{plan-in-place, plan-new}
-use Rattle.tidy.proofs.Step.{Clear}
+use Rattle.tidy.proofs.Shown.{Clear}
 use Rattle.tidy.proofs.Carry.{Apart}
 
 -- ---- lists of pages
 
+-- a page in front keeps the list within its region
 within-cons : (from to p : ℕ) (ps : List ℕ) → from ≤ p → p ≤ to → within from to ps ≡ true → within from to (p ∷ ps) ≡ true
 unfolding within
 within-cons from to p ps h k e = both-intro _ _ (le-leb from p h) (both-intro _ _ (le-leb p to k) e)
 
+-- no page
 within-nil : (from to : ℕ) → within from to [] ≡ true
 unfolding within
 within-nil from to = refl
 
+-- the pages of entries that point to leaf pages
 within-pages : (es : List Entry) → All (λ e. Leafy (e .page)) es → within 8 63 (pagesOf es) ≡ true
 within-pages [] h = within-nil 8 63
 within-pages (e ∷ es) h = within-cons 8 63 (e .page) (pagesOf es) (h .0 .0) (h .0 .1) (within-pages es (h .1))
@@ -53,22 +56,27 @@ differ-pages (e ∷ es) h =
     both-intro _ _ (ap not (listed-none (e .page) es (omega (arith, h (e .page), hit e))))
     (differ-pages es (λ p. omega (arith, h p)))
 
+-- one page
 differ-one : (p : ℕ) → differ (p ∷ []) ≡ true
 unfolding differ listed both
 differ-one p = refl
 
+-- two pages
 differ-two : (p q : ℕ) → p ≢ q → differ (p ∷ q ∷ []) ≡ true
 unfolding differ listed both pick
 differ-two p q d = rw (ne-eqb p q d)
 
 -- ---- the begin records
 
+-- a compact
 abbrev pub compactBegin : (u fill b : ℕ) (leaves : List ℕ) (d : ℕ) → Begin
 compactBegin u fill b leaves d = record { unit = u; type = 1; fill = fill; bases = b ∷ []; leaves = leaves; dest = d }
 
+-- a move
 abbrev pub moveBegin : (u b a d : ℕ) → Begin
 moveBegin u b a d = record { unit = u; type = 3; fill = 0; bases = b ∷ []; leaves = a ∷ []; dest = d }
 
+-- a swap
 abbrev pub swapBegin : (u p q a b : ℕ) → Begin
 swapBegin u p q a b = record { unit = u; type = 2; fill = 0; bases = oneOrTwo p q; leaves = a ∷ b ∷ []; dest = 0 }
 
@@ -79,6 +87,7 @@ unfolding beginOk
 ok-of g u t b c l d =
     all-intro _ _ (le-leb (g .unit) most4 u) (all-intro _ _ t (all-intro _ _ b (all-intro _ _ c (all-intro _ _ l (all-intro _ _ d all-nil)))))
 
+-- a compact's begin record is in form
 pub compact-ok : (u fill b : ℕ) (x : Entry) (ds : List Entry) (d : ℕ) → u ≤ most4 → 1 ≤ fill → fill ≤ 15 → Basic b
     → All (λ e. Leafy (e .page)) (x ∷ ds) → ((p : ℕ) → pointers p (x ∷ ds) ≤ 1) → 1 ≤ length ds → length ds ≤ 7 → Leafy d
     → (d ≡ x .page) ⊎ (listed d (pagesOf (x ∷ ds)) ≡ false) → beginOk (compactBegin u fill b (pagesOf (x ∷ ds)) d) ≡ true
@@ -99,6 +108,7 @@ compact-ok u fill b x ds d hu f1 f15 hb hl once l1 l7 hd side =
     (all-intro _ _ (within-cons 8 63 d [] (hd .0) (hd .1) (within-nil 8 63)) (all-intro _ _ t all-nil)))))))
     (within-cons 1 7 b [] (hb .0) (hb .1) (within-nil 1 7)) (differ-one b) (within-pages (x ∷ ds) hl) (differ-pages (x ∷ ds) once)
 
+-- a move's
 pub move-ok : (u b a d : ℕ) → u ≤ most4 → Basic b → Leafy a → Leafy d → d ≢ a → beginOk (moveBegin u b a d) ≡ true
 unfolding typeOk moveOk listed
 move-ok u b a d hu hb ha hd n =
@@ -116,22 +126,21 @@ move-ok u b a d hu hb ha hd n =
 -- one base page or two
 two-bases : (p q : ℕ) → Basic p → Basic q
     → (within 1 7 (oneOrTwo p q) ≡ true) × (differ (oneOrTwo p q) ≡ true) × (1 ≤ length (oneOrTwo p q)) × (length (oneOrTwo p q) ≤ 2)
-unfolding oneOrTwo
+unfolding oneOrTwo pick
 two-bases p q hp hq = go (eqb p q) refl
   where
     go : (t : Bool) → eqb p q ≡ t → (within 1 7 (pick t (p ∷ []) (p ∷ q ∷ [])) ≡ true) × (differ (pick t (p ∷ []) (p ∷ q ∷ [])) ≡ true)
         × (1 ≤ length (pick t (p ∷ []) (p ∷ q ∷ []))) × (length (pick t (p ∷ []) (p ∷ q ∷ [])) ≤ 2)
     go true e =
-        rw (pick-true true (p ∷ []) (p ∷ q ∷ []) refl)
         (within-cons 1 7 p [] (hp .0) (hp .1) (within-nil 1 7), differ-one p, omega arith, omega arith)
-    go false e =
-        rw (pick-false false (p ∷ []) (p ∷ q ∷ []) refl) (
-          within-cons 1 7 p (q ∷ []) (hp .0) (hp .1) (within-cons 1 7 q [] (hq .0) (hq .1) (within-nil 1 7)),
-          differ-two p q (eqb-false p q e),
-          omega arith,
-          omega arith,
-        )
+    go false e = (
+      within-cons 1 7 p (q ∷ []) (hp .0) (hp .1) (within-cons 1 7 q [] (hq .0) (hq .1) (within-nil 1 7)),
+      differ-two p q (eqb-false p q e),
+      omega arith,
+      omega arith,
+    )
 
+-- a swap's
 pub swap-ok : (u p q a b : ℕ) → u ≤ most4 → Basic p → Basic q → Leafy a → Leafy b → a ≢ b → beginOk (swapBegin u p q a b) ≡ true
 unfolding typeOk swapOk
 swap-ok u p q a b hu hp hq ha hb n =
@@ -147,38 +156,40 @@ swap-ok u p q a b hu hp hq ha hb n =
 
 -- the base pages that the plan of a swap reads off
 pub bases-read : (p q : ℕ) → (getD (oneOrTwo p q) 0 0 ≡ p) × (getD (oneOrTwo p q) 1 p ≡ q)
-unfolding oneOrTwo
+unfolding oneOrTwo pick
 bases-read p q = go (eqb p q) refl
   where
     go : (t : Bool) → eqb p q ≡ t → (getD (pick t (p ∷ []) (p ∷ q ∷ [])) 0 0 ≡ p) × (getD (pick t (p ∷ []) (p ∷ q ∷ [])) 1 p ≡ q)
-    go true e = rw (pick-true true (p ∷ []) (p ∷ q ∷ []) refl) (refl, eqb-true p q e)
-    go false e = rw (pick-false false (p ∷ []) (p ∷ q ∷ []) refl) (refl, refl)
+    go true e = (refl, eqb-true p q e)
+    go false e = (refl, refl)
 
 -- ---- no page is taken out after it was changed
 
+-- LMs and LE take out nothing
 clear-removals : (p q u : ℕ) (ps : List ℕ) → Clear p (removals q ps ++ (close u ∷ []))
 unfolding removals
 clear-removals p q u [] = tt
 clear-removals p q u (r ∷ ps) = clear-removals p q u ps
 
+-- nor do they change a leaf page
 apart-removals : (q u : ℕ) (ps : List ℕ) → Apart (removals q ps ++ (close u ∷ []))
 unfolding removals
 apart-removals q u [] = tt
 apart-removals q u (r ∷ ps) = apart-removals q u ps
 
 module _ (zs : List Step) (c : ℕ) where
+  -- gathering takes out the listed pages only
   clear-gather : (p : ℕ) (ds : List Entry) → pointers p ds ≡ 0 → Clear p zs → Clear p (gather c (pagesOf ds) ++ zs)
-  unfolding gather
+  unfolding gather pick
   clear-gather p [] h k = k
   clear-gather p (d ∷ ds) h k = go (eqb (d .page) c) (clear-gather p ds (omega arith) k)
     where
       go : (t : Bool) → Clear p (gather c (pagesOf ds) ++ zs)
           → Clear p (pick t (gather c (pagesOf ds)) (takeOut (d .page) c ∷ bringIn (d .page) c 1 ∷ gather c (pagesOf ds)) ++ zs)
-      go true r = rw (pick-true true (gather c (pagesOf ds)) (takeOut (d .page) c ∷ bringIn (d .page) c 1 ∷ gather c (pagesOf ds)) refl) r
-      go false r =
-          rw (pick-false false (gather c (pagesOf ds)) (takeOut (d .page) c ∷ bringIn (d .page) c 1 ∷ gather c (pagesOf ds)) refl)
-          (eqb-false (d .page) p (miss (eqb (d .page) p) _ h), r)
+      go true r = r
+      go false r = (eqb-false (d .page) p (miss (eqb (d .page) p) _ h), r)
 
+  -- pages that differ, gathered into another one
   apart-gather : (ds : List Entry) → pointers c ds ≡ 0 → ((p : ℕ) → pointers p ds ≤ 1) → ((p : ℕ) → Clear p zs) → Apart zs → Apart (gather c (pagesOf ds) ++ zs)
   unfolding gather
   apart-gather [] h once f a = a
@@ -188,6 +199,7 @@ module _ (zs : List Step) (c : ℕ) where
         (clear-gather c ds (omega arith) (f c), apart-gather ds (omega arith) (λ p. omega (arith, once p)) f a),
       )
 
+-- a compact in place
 pub apart-compact : (q u : ℕ) (x : Entry) (ds : List Entry) → ((p : ℕ) → pointers p (x ∷ ds) ≤ 1)
     → Apart (compactPlan q (x .page) (x .page ∷ pagesOf ds) ++ (close u ∷ []))
 apart-compact q u x ds once =
@@ -195,6 +207,7 @@ apart-compact q u x ds once =
     (apart-gather (removals q (pagesOf ds) ++ (close u ∷ [])) (x .page) ds (omega (arith, once (x .page), hit x)) (λ p. omega (arith, once p))
     (λ p. clear-removals p q u (pagesOf ds)) (apart-removals q u (pagesOf ds)))
 
+-- a compact to a new place
 pub apart-new : (q u : ℕ) (x : Entry) (ds : List Entry) (b : ℕ) → x .page ≢ b → ((p : ℕ) → pointers p (x ∷ ds) ≤ 1) → pointers b ds ≡ 0
     → Apart (compactPlan q b (x .page ∷ pagesOf ds) ++ (close u ∷ []))
 apart-new q u x ds b d once none =
@@ -207,10 +220,12 @@ apart-new q u x ds b d once none =
       ),
     )
 
+-- a move
 pub apart-move : (q a b u : ℕ) → Apart (movePlan q a b ++ (close u ∷ []))
 unfolding movePlan
 apart-move q a b u = (tt, (tt, tt))
 
+-- a swap
 pub apart-swap : (p q a b u : ℕ) → a ≢ b → Apart (swapPlan p q a b ++ (close u ∷ []))
 unfolding swapPlan
 apart-swap p q a b u d = ((λ e. d (sym e), tt), (tt, (tt, (tt, tt))))

@@ -13,7 +13,8 @@ use Rattle.unit.proofs.Places.{Leafy, StepKeeps, Keeping, one-more}
 use Rattle.tidy.specs.Tidy.{Carried}
 use Rattle.tidy.proofs.Model.{State}
 use Rattle.tidy.proofs.Run.{Run}
-use Rattle.tidy.proofs.Step.{Shows, AllMoved, Clear, Stepped, base-clear, out-step, in-step, point-step, remove-step}
+use Rattle.tidy.proofs.Shown.{Shows, AllMoved, Clear, Stepped, base-clear}
+use Rattle.tidy.proofs.Step.{out-step, in-step, point-step, remove-step}
 
 -- no page is taken out after it was changed
 abbrev pub Apart : List Step → Type 0
@@ -51,12 +52,15 @@ close-step n u did xs w s sh =
 leaf-to : (new : ℕ) → 1 ≤ new → (new ≡ 0) ⊎ Leafy new → Leafy new
 leaf-to new h t = ⊎-elim (λ (z : new ≡ 0). absurd (omega arith)) (λ (l : Leafy new). l) t
 
+-- the first step keeps to the regions
 keeping-1 : {x : Step} {xs : List Step} → Keeping (x ∷ xs) → StepKeeps x
 keeping-1 (one-more h k) = h
 
+-- so do the others
 keeping-2 : {x : Step} {xs : List Step} → Keeping (x ∷ xs) → Keeping xs
 keeping-2 (one-more h k) = k
 
+-- by the steps of the run
 pub carry : {did : List Rec} {todo : List Step} {s s′ : State} {rs : List Rec} → Run did todo s s′ rs → (n : ℕ) (w : List ℕ) → Shows w s → AllMoved did
     → Keeping todo → Apart todo → n + length todo ≤ 4294967296 → Carries n did todo w rs s′
 unfolding carried

@@ -12,7 +12,7 @@ use borrow.Author.Tests.{eqb-false, ne-eqb, leb-true, ltb-true}
 use lib.Dec.{eqb, leb, ltb}
 use lib.ListN.{length, getD}
 use Rattle.field.specs.Test.{both, all, pick}
-use Rattle.field.proofs.Test.{both-2, both-false, all-head, all-tail, pick-true, pick-false}
+use Rattle.field.proofs.Test.{both-2, both-false, all-head, all-tail, pick-false}
 use Rattle.page.specs.Page.{isEmpty}
 use Rattle.log.specs.Record.{Begin}
 use Rattle.tree.specs.Tree.{Leaf}
@@ -22,6 +22,7 @@ use Rattle.tidy.proofs.Trail.{miss}
 use Rattle.tidy.proofs.Gather.{pagesOf}
 use Rattle.tidy.proofs.Leaves.{leafFor, leavesAll}
 
+-- nothing is no begin record
 none-some : {g : Begin} → none ≡ some g → ⊥
 none-some e = let z : _≡_ {A = ℕ} 0 1 = cc in omega arith
 
@@ -38,6 +39,7 @@ pub record Compacted (u fill : ℕ) (ps : List (List ℕ)) (ls : List Leaf) (g :
   pub two : 2 ≤ length (group fill first next)
   pub is : g ≡ compactOf u fill first (group fill first next) (lowestEmpty low (first .at) 0 ps)
 
+-- the larger of two is no lower than the first
 larger-low : (a b : ℕ) → 7 ≤ a → 7 ≤ larger a b
 unfolding larger
 larger-low a b h = go (leb a b) refl
@@ -46,9 +48,10 @@ larger-low a b h = go (leb a b) refl
     go true e = unfold pick in (omega (arith, leb-true a b e))
     go false e = unfold pick in h
 
+-- what begin compact chooses is such a C
 pub compacted : (u fill low : ℕ) (lk : Option ℕ) (ps : List (List ℕ)) (ls : List Leaf) (g : Begin) → 7 ≤ low
     → chooseCompact u fill low lk ps ls ≡ some g → Compacted u fill ps ls g
-unfolding chooseCompact
+unfolding chooseCompact pick
 compacted u fill low lk ps [] g h e = absurd (none-some e)
 compacted u fill low lk ps (c ∷ next) g h e =
     go (both (exceeds (c .first) lk) (leb 2 (length (group fill c next)))) refl e
@@ -66,10 +69,10 @@ compacted u fill low lk ps (c ∷ next) g h e =
           low = low;
           low-enough = h;
           two = leb-true 2 (length (group fill c next)) (both-2 _ _ q);
-          is = sym (Option·some-injective _ _ (sym (pick-true true (some (compactOf u fill c (group fill c next) (lowestEmpty low (c .at) 0 ps))) (chooseCompact u fill (larger low (c .at)) lk ps next) refl) ∙ f));
+          is = sym (Option·some-injective _ _ f);
         }
     go false q f rest =
-        let r = rest (sym (pick-false false (some (compactOf u fill c (group fill c next) (lowestEmpty low (c .at) 0 ps))) (chooseCompact u fill (larger low (c .at)) lk ps next) refl) ∙ f) in
+        let r = rest f in
         record {
           before = c ∷ r .before;
           first = r .first;
@@ -84,7 +87,7 @@ compacted u fill low lk ps (c ∷ next) g h e =
 -- the destination: C's own page, or a page between L and C that is empty
 pub lowest-empty : (low c p : ℕ) (pgs : List (List ℕ)) → (lowestEmpty low c p pgs ≡ c)
     ⊎ ((i : ℕ) × (i < length pgs) × (lowestEmpty low c p pgs ≡ p + i) × (low < p + i) × (p + i < c) × (isEmpty (getD pgs i []) ≡ true))
-unfolding lowestEmpty
+unfolding lowestEmpty pick
 lowest-empty low c p [] = inl refl
 lowest-empty low c p (pg ∷ pgs) = go (all (ltb low p ∷ ltb p c ∷ isEmpty pg ∷ [])) refl (lowest-empty low c (p + 1) pgs)
   where
@@ -98,18 +101,18 @@ lowest-empty low c p (pg ∷ pgs) = go (all (ltb low p ∷ ltb p c ∷ isEmpty p
         inr (
           0,
           omega arith,
-          pick-true true p (lowestEmpty low c (p + 1) pgs) refl ∙ sym (add-zero p),
+          sym (add-zero p),
           omega (arith, ltb-true low p (all-head _ _ q)),
           omega (arith, ltb-true p c (all-head _ _ q1)),
           all-head _ _ (all-tail _ _ q1),
         )
-    go false q (inl e) = inl (pick-false false p (lowestEmpty low c (p + 1) pgs) refl ∙ e)
+    go false q (inl e) = inl e
     go false q (inr r) =
         let n : p + 1 + r .0 ≡ p + suc (r .0) = omega arith in
         inr (
           suc (r .0),
           omega (arith, r .1),
-          pick-false false p (lowestEmpty low c (p + 1) pgs) refl ∙ r .2 ∙ n,
+          r .2 ∙ n,
           omega (arith, r .3),
           omega (arith, r .4),
           r .5,
@@ -123,10 +126,12 @@ module _ (s : State) where
   Elsewhere b [] = Unit {0}
   Elsewhere b (l ∷ ls) = l .base ≢ b
 
+  -- nor has one in a page in front
   page-elsewhere : (b c : ℕ) (es : List Entry) (ls : List Leaf) → c ≢ b → Elsewhere b ls → Elsewhere b (map (leafFor s c) es ++ ls)
   page-elsewhere b c [] ls d h = h
   page-elsewhere b c (e ∷ es) ls d h = d
 
+  -- where the root entries do not point to b
   pub elsewhere : (b : ℕ) (root : List Entry) → pointers b root ≡ 0 → Elsewhere b (leavesAll s root)
   elsewhere b [] h = tt
   elsewhere b (e ∷ es) h =
@@ -141,12 +146,14 @@ module _ (s : State) where
     pub few : length with ≤ n
     pub fits : (with ≡ []) ⊎ (sum + weight (s .leaf) with ≤ fill)
 
+  -- none joins
   none-join : (fill sum n : ℕ) (zs : List Entry) (joined : List ℕ) → joined ≡ [] → Joins fill sum n zs joined
   none-join fill sum n zs joined e = record { with = []; rest = zs; cut = refl; is = e; few = omega arith; fits = inl refl }
 
+  -- so it is with those that `joining` takes
   pub joins : (fill b sum n : ℕ) (zs : List Entry) (ls : List Leaf) → Elsewhere b ls
       → Joins fill sum n zs (joining fill b sum n (map (leafFor s b) zs ++ ls))
-  unfolding joining
+  unfolding joining pick
   joins fill b sum zero zs ls h = none-join fill sum 0 zs _ refl
   joins fill b sum (suc n) [] [] h = none-join fill sum (suc n) [] _ refl
   joins fill b sum (suc n) [] (l ∷ ls) h =
@@ -158,14 +165,14 @@ module _ (s : State) where
           → Joins fill (sum + length (s .leaf (z .page))) n zs (joining fill b (sum + length (s .leaf (z .page))) n (map (leafFor s b) zs ++ ls))
           → Joins fill sum (suc n) (z ∷ zs)
           (pick t (z .page ∷ joining fill b (sum + length (s .leaf (z .page))) n (map (leafFor s b) zs ++ ls)) [])
-      go false q r = none-join fill sum (suc n) (z ∷ zs) _ (pick-false false _ [] refl)
+      go false q r = none-join fill sum (suc n) (z ∷ zs) _ refl
       go true q r =
           let k : sum + length (s .leaf (z .page)) ≤ fill = leb-true (sum + length (s .leaf (z .page))) fill (both-2 _ _ q) in
           record {
             with = z ∷ r .with;
             rest = r .rest;
             cut = ap (λ (x : List Entry). z ∷ x) (r .cut);
-            is = pick-true true _ [] refl ∙ ap (λ (x : List ℕ). z .page ∷ x) (r .is);
+            is = ap (λ (x : List ℕ). z .page ∷ x) (r .is);
             few = omega (arith, r .few);
             fits = inr
                 (⊎-elim
@@ -185,9 +192,10 @@ pub record Ordered (u : ℕ) (ps : List (List ℕ)) (ls : List Leaf) (i : ℕ) (
   pub misplaced : leaf .at ≢ place (i + length before)
   pub is : g ≡ putInOrder u (place (i + length before)) ps ls leaf
 
+-- what begin order chooses is such a leaf
 pub ordered : (u : ℕ) (ps : List (List ℕ)) (ls : List Leaf) (i : ℕ) (rest : List Leaf) (g : Begin) → chooseOrder u ps ls i rest ≡ some g
     → Ordered u ps ls i rest g
-unfolding chooseOrder
+unfolding chooseOrder pick
 ordered u ps ls i [] g e = absurd (none-some e)
 ordered u ps ls i (l ∷ rest) g e = go (eqb (l .at) (place i)) refl e (ordered u ps ls (i + 1) rest g)
   where
@@ -195,18 +203,16 @@ ordered u ps ls i (l ∷ rest) g e = go (eqb (l .at) (place i)) refl e (ordered 
         → (chooseOrder u ps ls (i + 1) rest ≡ some g → Ordered u ps ls (i + 1) rest g) → Ordered u ps ls i (l ∷ rest) g
     go false q f r =
         let k : i + 0 ≡ i = add-zero i in
-        let same : putInOrder u (place i) ps ls l ≡ g =
-        Option·some-injective _ _ (sym (pick-false false (chooseOrder u ps ls (i + 1) rest) (some (putInOrder u (place i) ps ls l)) refl) ∙ f) in
         record {
           before = [];
           leaf = l;
           next = rest;
           all-leaves = refl;
           misplaced = rw k (eqb-false (l .at) (place i) q);
-          is = rw k (sym same);
+          is = rw k (sym (Option·some-injective _ _ f));
         }
     go true q f r =
-        let o = r (sym (pick-true true (chooseOrder u ps ls (i + 1) rest) (some (putInOrder u (place i) ps ls l)) refl) ∙ f) in
+        let o = r f in
         let k : i + suc (length (o .before)) ≡ i + 1 + length (o .before) = omega arith in
         record {
           before = l ∷ o .before;

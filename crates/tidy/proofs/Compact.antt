@@ -20,10 +20,12 @@ use Rattle.tidy.proofs.Gather.{pagesOf, gathers, removes}
 
 -- ---- the two plans, written out
 
+-- in place no LM points elsewhere
 pub plan-in-place : (q c : ℕ) (ps : List ℕ) (zs : List Step) → compactPlan q c (c ∷ ps) ++ zs ≡ gather c ps ++ (removals q ps ++ zs)
 unfolding compactPlan replacing others gather pick
 plan-in-place q c ps zs = rw (eq-eqb c c refl) (append-assoc (gather c ps) (removals q ps) zs)
 
+-- to a new place the first leaf goes too
 pub plan-new : (q c b : ℕ) (ps : List ℕ) (zs : List Step) → c ≢ b
     → compactPlan q b (c ∷ ps) ++ zs ≡ takeOut c b ∷ bringIn c b 1 ∷ (gather b ps ++ (point q c b false ∷ (removals q ps ++ zs)))
 unfolding compactPlan replacing others gather pick
@@ -31,10 +33,12 @@ plan-new q c b ps zs d = rw (ne-eqb c b d, append-assoc (gather b ps) (point q c
 
 -- ---- what a base page with fewer entries keeps
 
+-- first keys stay where each page's first key does
 heads-but : (f g : ℕ → List Entry) (es : List Entry) → ((e : Entry) → first (f (e .page)) ≡ first (g (e .page))) → Heads g es → Heads f es
 heads-but f g [] s h = tt
 heads-but f g (e ∷ es) s h = (s e ∙ h .0, heads-but f g es s (h .1))
 
+-- the first key, whatever follows x
 first-mid : (xs : List Entry) (x : Entry) (ys zs : List Entry) → first (xs ++ x ∷ ys) ≡ first (xs ++ x ∷ zs)
 first-mid [] x ys zs = refl
 first-mid (e ∷ xs) x ys zs = refl
@@ -51,9 +55,11 @@ module _ (r₁ : List Entry) (e : Entry) (r₂ : List Entry) (xs : List Entry) (
         omega (arith, u, hit e, full≤ (s .base (e .page)), pointers-append (e .page) r₁ (e ∷ r₂)),
       )
 
+  -- the entries in front of x
   pre : List Entry
   pre = beneath (s .base) r₁ ++ xs
 
+  -- the entries behind those that join
   post : List Entry
   post = ys ++ beneath (s .base) r₂
 
@@ -83,6 +89,7 @@ module _ (r₁ : List Entry) (e : Entry) (r₂ : List Entry) (xs : List Entry) (
         pointers-append p (s .base (e .page)) (beneath (s .base) r₂),
       )
 
+  -- a page with x is full
   full-same : (us vs : List Entry) → full (xs ++ x ∷ us) ≡ full (xs ++ x ∷ vs)
   full-same us vs = omega (arith, full-mid xs x us, full-mid xs x vs, full≤ (xs ++ x ∷ us), full≤ (xs ++ x ∷ vs))
 
@@ -100,15 +107,19 @@ module _ (r₁ : List Entry) (e : Entry) (r₂ : List Entry) (xs : List Entry) (
       )
       (simp (map-append (λ i. 2 * entry-key i + 1), append-assoc))
 
+  -- the base pages after the unit
   abbrev end-base : ℕ → List Entry
   end-base = upd (s .base) (e .page) (xs ++ x ∷ ys)
 
+  -- other base pages stay
   elsewhere : (q : ℕ) → q ≢ e .page → end-base q ≡ s .base q
   elsewhere q d = rw (ne-eqb q (e .page) d)
 
+  -- this one has lost the entries of ds
   there : end-base (e .page) ≡ xs ++ x ∷ ys
   there = rw (eq-eqb (e .page) (e .page) refl)
 
+  -- first keys stay
   heads-kept : Heads end-base (r₁ ++ e ∷ r₂)
   heads-kept =
       heads-but end-base (s .base) (r₁ ++ e ∷ r₂)
@@ -122,6 +133,7 @@ module _ (r₁ : List Entry) (e : Entry) (r₂ : List Entry) (xs : List Entry) (
       (eq? (d .page) (e .page)))
       (tree .heads)
 
+  -- the upper level stays well formed
   upper-kept : Well entry-key end-base (r₁ ++ e ∷ r₂)
   upper-kept =
       record {
@@ -150,6 +162,7 @@ module _ (r₁ : List Entry) (e : Entry) (r₂ : List Entry) (xs : List Entry) (
     pub well : Tree (r₁ ++ e ∷ r₂) (state end-leaf end-base)
     pub same : contents (r₁ ++ e ∷ r₂) (state end-leaf end-base) ≡ contents (r₁ ++ e ∷ r₂) s
 
+  -- on a well-formed tree, within the fill
   pub compacts : weight (s .leaf) (x ∷ ds) ≤ 15 → Compacts
   compacts fits =
       let all : level (r₁ ++ e ∷ r₂) s ≡ pre ++ x ∷ (ds ++ post) = spread ds (s .base) (λ q n. refl) here in
@@ -180,21 +193,26 @@ module _ (r₁ : List Entry) (e : Entry) (r₂ : List Entry) (xs : List Entry) (
 
 -- ---- the same, to the empty page b: the first leaf moves, the others follow it
 
+-- renamed leaves weigh the same
 weight-to : (f : ℕ → ℕ) (twice : (p : ℕ) → f (f p) ≡ p) (l : ℕ → List (List ℕ)) (es : List Entry) → weight (λ p. l (f p)) (map (to f) es) ≡ weight l es
 weight-to f twice l [] = refl
 weight-to f twice l (e ∷ es) = rw (twice (e .page), weight-to f twice l es)
 
 module _ (r₁ : List Entry) (e : Entry) (r₂ : List Entry) (xs : List Entry) (x : Entry) (ds ys : List Entry) (s : State)
     (tree : Tree (r₁ ++ e ∷ r₂) s) (here : s .base (e .page) ≡ xs ++ x ∷ (ds ++ ys)) (b : ℕ) (none : s .leaf b ≡ []) where
+  -- the root's entries
   abbrev root : List Entry
   root = r₁ ++ e ∷ r₂
 
+  -- the renaming
   abbrev τ : ℕ → ℕ
   τ = exch (x .page) b
 
+  -- the tree with the first leaf in its new place
   abbrev s₁ : State
   s₁ = renaming τ (exch-twice (x .page) b) s
 
+  -- its entries in the base page
   here₁ : s₁ .base (e .page) ≡ map (to τ) xs ++ to τ x ∷ (map (to τ) ds ++ map (to τ) ys)
   here₁ = ap (map (to τ)) here ∙ map-mid (to τ) xs x (ds ++ ys) ∙ ap (λ (l : List Entry). map (to τ) xs ++ to τ x ∷ l) (map-append (to τ) ds ys)
 

@@ -23,38 +23,45 @@ use Rattle.tidy.proofs.Model.{Entry, Ascends, pointers, redirect, strip
 abbrev pub ent : List ℕ → Entry
 ent r = record { key = keyOf r; page = toPage r }
 
+-- rows as pairs
 abbrev pub ents : List (List ℕ) → List Entry
 ents rs = map ent rs
 
 -- ---- one test or two
 
+-- one test
 pick-cond {ℓ} : {A : Type ℓ} (t : Bool) (x y : A) → pick t x y ≡ cond t x y
 unfolding pick
 pick-cond true x y = refl
 pick-cond false x y = refl
 
+-- two tests
 pick-both {ℓ} : {A : Type ℓ} (t u : Bool) (x y : A) → pick (both t u) x y ≡ cond t (cond u x y) y
 unfolding pick both
 pick-both true true x y = refl
 pick-both true false x y = refl
 pick-both false u x y = refl
 
+-- a test turned round
 cond-not {ℓ} : {A : Type ℓ} (t : Bool) (x y : A) → cond (not t) x y ≡ cond t y x
 cond-not true x y = refl
 cond-not false x y = refl
 
 -- ---- pointers, the lowest entry, the changes
 
+-- pointers of rows are those of pairs
 pub pointers-ents : (p : ℕ) (es : List (List ℕ)) → T.pointers p es ≡ pointers p (ents es)
 unfolding T.pointers
 pointers-ents p [] = refl
 pointers-ents p (e ∷ es) = ap₂ (λ (a b : ℕ). a + b) (pick-cond (eqb (toPage e) p) 1 0) (pointers-ents p es)
 
+-- an entry may be taken where it is not skipped
 other-skips : (skip : Option ℕ) (k : ℕ) → isOther skip k ≡ not (skips skip k)
 unfolding isOther
 other-skips none k = refl
 other-skips (some j) k = refl
 
+-- the lowest entry
 pub lowest-ents : (skip : Option ℕ) (p : ℕ) (es : List (List ℕ)) → lowestTo skip p es ≡ lowest skip p (ents es)
 unfolding lowestTo
 lowest-ents skip p [] = refl
@@ -79,6 +86,7 @@ lowest-has skip p k (r ∷ es) e = by-test (both (eqb (toPage r) p) (isOther ski
         pick-true (isEntry k p r) true (has k p es) (entry-here k p r key (eqb-true (toPage r) p (both-1 _ _ q)))
     by-test false q f rest = pick-second (isEntry k p r) (has k p es) (rest f)
 
+-- an entry pointed elsewhere
 pub redirect-ents : (k old new : ℕ) (es : List (List ℕ)) → new < 65536 → Each (Long 8) es → ents (pointTo k old new es) ≡ map (redirect k old new) (ents es)
 unfolding pointTo isEntry
 redirect-ents k old new [] h Each.nil = refl
@@ -90,6 +98,7 @@ redirect-ents k old new (e ∷ es) h (Each.cons l ls) =
     one true false = unfold pick both in refl
     one false u = unfold pick both in refl
 
+-- an entry removed
 pub strip-ents : (k p : ℕ) (es : List (List ℕ)) → ents (without k p es) ≡ strip k p (ents es)
 unfolding without isEntry
 strip-ents k p [] = refl

@@ -22,21 +22,25 @@ use Rattle.tidy.proofs.Model.{Ascends, pointers, full, beneath, State, 
 use Rattle.tidy.proofs.Trail.{pointers-append}
 use Rattle.tidy.proofs.Entries.{ent, ents, pointers-ents, ascend-keys}
 use Rattle.tidy.proofs.Pages.{sound-page, leafOf, baseOf, rootOf, leaf-at, leaf-not, base-not, page-past, root-form, root-rows}
-use Rattle.tidy.proofs.Step.{Shows}
+use Rattle.tidy.proofs.Shown.{Shows}
 use Rattle.tidy.proofs.Keys.{rowTrail, kept-trail, trail-kept, below-ascends}
-use Rattle.tidy.proofs.Below.{outside, once-at, once-all, zero-to, zero-of, root, leaves, root-is, level-is, root-into, leaves-into, level-ents, records-beneath, trail-base, trail-leaf, bases-asc, leaves-asc, full-base, full-leaf, heads-to, heads-of}
+use Rattle.tidy.proofs.Tests.{outside, once-at, once-all, zero-to, zero-of}
+use Rattle.tidy.proofs.Below.{root, leaves, root-is, level-is, root-into, leaves-into, level-ents, records-beneath, trail-base, trail-leaf, bases-asc, leaves-asc, full-base, full-leaf, heads-to, heads-of}
 
 -- the tree that the pages show
 abbrev pub stateOf : List ℕ → State
 stateOf w = state (leafOf w) (baseOf w)
 
 module _ (w : List ℕ) (sound : Sound w) where
+  -- all pages
   abbrev ps : List (List ℕ)
   ps = pages w
 
+  -- the root's entries
   abbrev top : List (List ℕ)
   top = root w sound
 
+  -- the entries of base pages
   abbrev lev : List (List ℕ)
   lev = leaves w sound
 
@@ -45,18 +49,22 @@ module _ (w : List ℕ) (sound : Sound w) where
   unfolding wellFormed
   tests = rw (root-is w sound, level-is w sound)
 
+  -- no leaf stands behind the 64 pages
   leaf-past : (p : ℕ) → 64 ≤ p → leafOf w p ≡ []
   unfolding rows rowsOf count le2
   leaf-past p h = leaf-at w p (omega arith) ∙ ap records (page-past p w (sound .whole) h)
 
   -- ---- pointers, page by page
 
+  -- the pointers of both levels
   count-both : (p : ℕ) → T.pointers p (top ++ lev) ≡ pointers p (ents top) + pointers p (ents lev)
   count-both p = pointers-ents p (top ++ lev) ∙ ap (pointers p) (map-append ent top lev) ∙ pointers-append p (ents top) (ents lev)
 
+  -- the pages behind the root
   behind-first : (i : ℕ) → i < 63 → getD (drop 1 ps) i [] ≡ page (1 + i) w
   behind-first i h = getD-drop 1 ps i [] ∙ getD-pages (1 + i) w (omega arith)
 
+  -- are 63
   length-behind : length (drop 1 ps) ≡ 63
   length-behind = rw (length-drop 1 ps, length-pages w)
 
@@ -64,6 +72,7 @@ module _ (w : List ℕ) (sound : Sound w) where
   abbrev Counted : ℕ → Type 0
   Counted p = pointers p (ents top) + pointers p (ents lev) ≡ pick (isEmpty (page p w)) 0 1
 
+  -- the test, page by page
   counted-to : pointedOnce (top ++ lev) 1 (drop 1 ps) ≡ true → (p : ℕ) → 1 ≤ p → p < 64 → Counted p
   counted-to e p h k =
       let i : ℕ = p - 1 in
@@ -71,12 +80,14 @@ module _ (w : List ℕ) (sound : Sound w) where
       let inside : i < length (drop 1 ps) = omega (arith, length-behind) in
       rw (count-both (1 + i), behind-first i (omega arith), q) at (once-at (top ++ lev) 1 i (drop 1 ps) e inside)
 
+  -- and back
   counted-of : ((p : ℕ) → 1 ≤ p → p < 64 → Counted p) → pointedOnce (top ++ lev) 1 (drop 1 ps) ≡ true
   counted-of f =
       once-all (top ++ lev) 1 (drop 1 ps)
       (λ i h. let k : i < 63 = omega (arith, length-behind) in
       rw (count-both (1 + i), behind-first i k) (f (1 + i) (omega arith) (omega arith)))
 
+  -- base pages are pointed to as they should be
   upper-pointed : ((p : ℕ) → 1 ≤ p → p < 64 → Counted p) → (p : ℕ) → pointers p (ents top) ≡ full (baseOf w p)
   upper-pointed f p =
       split p 1
@@ -87,6 +98,7 @@ module _ (w : List ℕ) (sound : Sound w) where
       omega (arith, full-base w sound p h (omega arith)))
       (λ k. outside 1 7 p top (root-into w sound) (inr k) ∙ sym (ap full (base-not w p (inr k)))))
 
+  -- so are leaf pages
   lower-pointed : ((p : ℕ) → 1 ≤ p → p < 64 → Counted p) → (p : ℕ) → pointers p (ents lev) ≡ full (leafOf w p)
   lower-pointed f p =
       split p 8
@@ -101,6 +113,7 @@ module _ (w : List ℕ) (sound : Sound w) where
   level-of : ents lev ≡ level (rootOf w) (stateOf w)
   level-of = level-ents w sound top (root-into w sound)
 
+  -- all records are the tree's
   pub records-of : allRecords ps ≡ contents (rootOf w) (stateOf w)
   unfolding allRecords
   records-of =
@@ -108,9 +121,11 @@ module _ (w : List ℕ) (sound : Sound w) where
 
   -- ---- both ways
 
+  -- the root's keys ascend
   root-rises : Ascends 0 (map keyOf top)
   root-rises = ascend-keys 101 110 0 top (root-rows (page 0 w) (root-form (page 0 w) (sound-page 0 w sound (omega arith))) .order)
 
+  -- pages that pass the test show a well-formed tree
   pub to-tree : wellFormed ps ≡ true → Tree (rootOf w) (stateOf w)
   to-tree e =
       let e0 = sym tests ∙ e in
@@ -130,6 +145,7 @@ module _ (w : List ℕ) (sound : Sound w) where
             (record { ascends = rw (trail-leaf w sound lev (leaves-into w sound)) low; pointed = lower-pointed f });
       }
 
+  -- and pages that show one pass it
   pub from-tree : Tree (rootOf w) (stateOf w) → wellFormed ps ≡ true
   from-tree t =
       let low = rw (← level-of) at (t .lower) in

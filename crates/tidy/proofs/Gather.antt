@@ -22,6 +22,7 @@ use Rattle.tidy.proofs.Place.{found-first}
 abbrev pub pagesOf : List Entry → List ℕ
 pagesOf es = map (λ (e : Entry). e .page) es
 
+-- leaves below entries to other pages weigh the same
 weight-other : (l : ℕ → List (List ℕ)) (a b : ℕ) (es : List Entry) → pointers a es ≡ 0 → pointers b es ≡ 0 → weight (merged a b l) es ≡ weight l es
 weight-other l a b [] h k = refl
 weight-other l a b (e ∷ es) h k =
@@ -30,6 +31,7 @@ weight-other l a b (e ∷ es) h k =
 -- ---- the leaves of ds gathered into that of x
 
 module _ (pre : List Entry) (x : Entry) (post : List Entry) where
+  -- the steps run to their end, whatever follows them
   pub record Gathers (l : ℕ → List (List ℕ)) (ds : List Entry) : Type 0 where
     pub end : ℕ → List (List ℕ)
     pub runs : (todo : List Step) (b : ℕ → List Entry) (s′ : State) → Always todo (state end b) s′
@@ -37,6 +39,7 @@ module _ (pre : List Entry) (x : Entry) (post : List Entry) where
     pub well : Well keyOf end (pre ++ x ∷ post)
     pub same : beneath end (pre ++ x ∷ post) ≡ beneath l (pre ++ x ∷ (ds ++ post))
 
+  -- neighbours merged one after the other
   pub gathers : (ds : List Entry) (l : ℕ → List (List ℕ)) → Well keyOf l (pre ++ x ∷ (ds ++ post)) → weight l (x ∷ ds) ≤ 15 → Gathers l ds
   unfolding gather pick
   gathers [] l w h = record { end = l; runs = λ todo b s′ k. k; well = w; same = refl }
@@ -85,6 +88,7 @@ strip-none k p (e ∷ es) h =
     go true = refl
     go false = refl
 
+-- the same where it stands in the middle
 strip-at : (xs : List Entry) (d : Entry) (ys : List Entry) → pointers (d .page) xs ≡ 0 → pointers (d .page) ys ≡ 0
     → strip (d .key) (d .page) (xs ++ d ∷ ys) ≡ xs ++ ys
 strip-at [] d ys h k = rw (eq-eqb (d .key) (d .key) refl, eq-eqb (d .page) (d .page) refl) (strip-none (d .key) (d .page) ys k)
@@ -97,14 +101,16 @@ strip-at (e ∷ xs) d ys h k =
     go false = refl
 
 module _ {A : Type 0} (f : ℕ → A) (b : ℕ) where
-  -- written with what stands there, and written twice
+  -- written with what stands there
   pub upd-same : (v : A) → f b ≡ v → upd f b v ≡ f
   upd-same v e = fun-ext (λ q. ⊎-elim (λ (k : q ≡ b). rw (eq-eqb q b k, k) (sym e)) (λ (d : q ≢ b). rw (ne-eqb q b d)) (eq? q b))
 
+  -- written twice
   pub upd-twice : (u v : A) → upd (upd f b u) b v ≡ upd f b v
   upd-twice u v = fun-ext (λ q. ⊎-elim (λ (k : q ≡ b). rw (eq-eqb q b k)) (λ (d : q ≢ b). rw (ne-eqb q b d)) (eq? q b))
 
 module _ (b : ℕ) (xs : List Entry) (x : Entry) (ys : List Entry) (l : ℕ → List (List ℕ)) (todo : List Step) (s′ : State) where
+  -- one LM for each of ds
   pub removes : (ds : List Entry) (base : ℕ → List Entry) → base b ≡ xs ++ x ∷ (ds ++ ys) → ((p : ℕ) → pointers p (base b) ≤ 1)
       → Always todo (state l (upd base b (xs ++ x ∷ ys))) s′ → Always (removals b (pagesOf ds) ++ todo) (state l base) s′
   unfolding removals

@@ -34,6 +34,7 @@ fill-1 fill =
     (λ (d : fill ≢ 0). rw (pick-false (eqb fill 0) 12 fill (ne-eqb fill 0 d)) (omega arith))
     (eq? fill 0)
 
+-- no fill is above 15
 fill-15 : (fill : ℕ) → fill ≤ 15 → fillOf fill ≤ 15
 unfolding fillOf
 fill-15 fill h =
@@ -65,6 +66,7 @@ pub record Grouped (w : List ℕ) (u : ℕ) (g : Begin) : Type 0 where
 
 module _ (w : List ℕ) (tidy : Tidy w) (u fill : ℕ) (g : Begin) (c : Compacted u fill (pages w) (leavesOf (pages w)) g)
     (p : Spot (stateOf w) (rootOf w) (c .first) (c .next)) where
+  -- the records of C
   abbrev sum : ℕ
   sum = length (leafOf w (p .entry .page))
 
@@ -79,6 +81,7 @@ module _ (w : List ℕ) (tidy : Tidy w) (u fill : ℕ) (g : Begin) (c : Compacte
         ap (pointers (p .top .page)) (p .roots) ∙ pointers-append (p .top .page) (p .left) (p .top ∷ p .right),
       )
 
+  -- those that join C
   joined : Joins (stateOf w) fill sum 7 (p .after)
       (joining fill (p .top .page) sum 7 (map (leafFor (stateOf w) (p .top .page)) (p .after) ++ leavesAll (stateOf w) (p .right)))
   joined =
@@ -92,6 +95,7 @@ module _ (w : List ℕ) (tidy : Tidy w) (u fill : ℕ) (g : Begin) (c : Compacte
       ap₂ (λ (l : Leaf) (ls : List Leaf). l .at ∷ joining fill (l .base) (l .count) 7 ls) (p .leaf) (p .others)
       ∙ ap (λ (l : List ℕ). p .entry .page ∷ l) (joined .is)
 
+  -- the begin record
   begun : g ≡ compactBegin u fill (p .top .page) (pagesOf (p .entry ∷ joined .with)) (lowestEmpty (c .low) (p .entry .page) 0 (pages w))
   unfolding compactOf
   begun =
@@ -105,9 +109,11 @@ module _ (w : List ℕ) (tidy : Tidy w) (u fill : ℕ) (g : Begin) (c : Compacte
         dest = lowestEmpty (c .low) (p .leaf i .at) 0 (pages w);
       })
 
+  -- at least one joins
   some-join : 1 ≤ length (joined .with)
   some-join = omega (arith, c .two, ap length listed-pages, length-map (joined .with) (λ (r : Entry). r .page))
 
+  -- all of it
   grouped-in : 1 ≤ fill → fill ≤ 15 → Grouped w u g
   grouped-in f1 f15 =
       record {
@@ -134,6 +140,7 @@ module _ (w : List ℕ) (tidy : Tidy w) (u fill : ℕ) (g : Begin) (c : Compacte
         is = begun;
       }
 
+-- so it is with what begin compact chooses
 pub grouped : (w : List ℕ) → Tidy w → (u fill : ℕ) (lk : Option ℕ) (g : Begin) → fill ≤ 15 → compactUnit u fill lk (pages w) ≡ some g → Grouped w u g
 unfolding compactUnit
 grouped w tidy u fill lk g hf chosen =

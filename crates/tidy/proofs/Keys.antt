@@ -35,6 +35,7 @@ module _ (sz : ℕ) (ps : List (List ℕ)) where
       unfold-lower : lower m (r ∷ es) ≡ true → ltb m (keyOf r) ≡ true
       unfold-lower q = unfold lower in q
 
+  -- a page's marks in front of the trail of later entries
   join : (lo k : ℕ) (rs es : List (List ℕ)) → Ascends lo (marks keyOf rs) → keysBetween k es rs ≡ true → Ascends lo (rowTrail es)
       → Ascends lo (marks keyOf rs ++ rowTrail es)
   unfolding keysBetween
@@ -43,6 +44,7 @@ module _ (sz : ℕ) (ps : List (List ℕ)) where
       let e1 = both-2 _ _ e in
       (a .0, join (suc (2 * keyOf r + 1)) k rs es (a .1) (both-2 _ _ e1) (raise lo (keyOf r) es (both-1 _ _ e1) t))
 
+  -- a page's keys start no lower than its entry's
   from-first : (k : ℕ) (rs es : List (List ℕ)) → keysBetween k es rs ≡ true → Ascends 0 (map keyOf rs) → Ascends k (map keyOf rs)
   unfolding keysBetween
   from-first k [] es e a = tt
@@ -63,11 +65,13 @@ module _ (sz : ℕ) (ps : List (List ℕ)) where
 
   -- ---- to the test
 
+  -- a key is lower than the next entry's
   next-above : (lo m : ℕ) (rs es : List (List ℕ)) → suc (2 * m + 1) ≤ lo → Ascends lo (marks keyOf rs ++ rowTrail es) → lower m es ≡ true
   unfolding lower
   next-above lo m rs [] h a = refl
   next-above lo m rs (e ∷ es) h a = lt-ltb m (keyOf e) (omega (arith, bound lo (marks keyOf rs) (2 * keyOf e) _ a))
 
+  -- the keys of a page lie between
   between : (lo k : ℕ) (rs es : List (List ℕ)) → suc (2 * k) ≤ lo → Ascends lo (marks keyOf rs ++ rowTrail es) → keysBetween k es rs ≡ true
   unfolding keysBetween
   between lo k [] es h a = refl
@@ -76,6 +80,7 @@ module _ (sz : ℕ) (ps : List (List ℕ)) where
       (both-intro _ _ (next-above (suc (2 * keyOf r + 1)) (keyOf r) rs es (omega arith) (a .1))
       (between (suc (2 * keyOf r + 1)) k rs es (omega (arith, a .0)) (a .1)))
 
+  -- a trail that ascends passes the test
   pub trail-kept : (lo : ℕ) (es : List (List ℕ)) → Ascends lo (rowTrail es) → keysKept sz ps es ≡ true
   unfolding keysKept
   trail-kept lo [] a = refl
@@ -85,6 +90,7 @@ module _ (sz : ℕ) (ps : List (List ℕ)) where
 
   -- ---- the keys of all rows below ascend
 
+  -- marks taken back to keys
   thin : (lo : ℕ) (rs : List (List ℕ)) (t : List ℕ) (us : List (List ℕ)) → ((m : ℕ) → Ascends (2 * m) t → Ascends m (map keyOf us))
       → Ascends (2 * lo) (marks keyOf rs ++ t) → Ascends lo (map keyOf (rs ++ us))
   thin lo [] t us f a = f lo a
@@ -93,6 +99,7 @@ module _ (sz : ℕ) (ps : List (List ℕ)) where
     thin (suc (keyOf r)) rs t us f (Trail.lower {lo = suc (2 * keyOf r + 1)} {lo′ = 2 * suc (keyOf r)} (marks keyOf rs ++ t) (omega arith) (a .1)),
   )
 
+  -- of a whole level
   pub below-ascends : (lo : ℕ) (es : List (List ℕ)) → Ascends (2 * lo) (rowTrail es) → Ascends lo (map keyOf (below sz ps es))
   unfolding below
   below-ascends lo [] a = tt

@@ -20,10 +20,10 @@ use Rattle.tidy.specs.Tidy.{Sound, Tidy, Keeps}
 use Rattle.tidy.proofs.Model.{Entry, pointers, beneath, State, Tree, level, contents, All}
 use Rattle.tidy.proofs.Trail.{eq?, full≤}
 use Rattle.tidy.proofs.Run.{Kept}
-use Rattle.tidy.proofs.Place.{all-join}
+use Rattle.tidy.proofs.Place.{all-map, all-join}
 use Rattle.tidy.proofs.Entries.{ents, pointing-ents}
 use Rattle.tidy.proofs.Pages.{sound-page, leafOf, baseOf, rootOf, leaf-at, leaf-not, base-at, page-past, leaf-form, leaf-rows, rows-empty}
-use Rattle.tidy.proofs.Step.{Shows}
+use Rattle.tidy.proofs.Shown.{Shows}
 use Rattle.tidy.proofs.Carry.{Apart, carry}
 use Rattle.tidy.proofs.Below.{root-into, base-into}
 use Rattle.tidy.proofs.Formed.{stateOf, to-tree, from-tree, records-of, shown-state}
@@ -35,10 +35,12 @@ abbrev tally : ℕ → ℕ → List Entry → ℕ
 tally lo zero es = 0
 tally lo (suc n) es = pointers lo es + tally (suc lo) n es
 
+-- one entry more
 tally-cons : (lo n : ℕ) (e : Entry) (es : List Entry) → tally lo n (e ∷ es) ≡ tally lo n (e ∷ []) + tally lo n es
 tally-cons lo zero e es = refl
 tally-cons lo (suc n) e es = omega (arith, tally-cons (suc lo) n e es)
 
+-- an entry that points there counts
 tally-one : (lo n : ℕ) (e : Entry) → lo ≤ e .page → e .page < lo + n → 1 ≤ tally lo n (e ∷ [])
 tally-one lo zero e h k = absurd (omega arith)
 tally-one lo (suc n) e h k =
@@ -47,28 +49,29 @@ tally-one lo (suc n) e h k =
     (λ (d : e .page ≢ lo). omega (arith, tally-one (suc lo) n e (omega arith) (omega arith)))
     (eq? (e .page) lo)
 
+-- every entry counts
 tally-length : (lo n : ℕ) (es : List Entry) → All (λ e. (lo ≤ e .page) × (e .page < lo + n)) es → length es ≤ tally lo n es
 tally-length lo n [] h = omega arith
 tally-length lo n (e ∷ es) h = omega (arith, tally-cons lo n e es, tally-one lo n e (h .0 .0) (h .0 .1), tally-length lo n es (h .1))
 
+-- each page counts once at most
 tally-most : (lo n : ℕ) (es : List Entry) → ((p : ℕ) → pointers p es ≤ 1) → tally lo n es ≤ n
 tally-most lo zero es h = omega arith
 tally-most lo (suc n) es h = omega (arith, h lo, tally-most (suc lo) n es h)
 
+-- a property of all entries of the pages below
 all-beneath : (P : Entry → Type 0) (base : ℕ → List Entry) (root : List Entry) → All (λ e. All P (base (e .page))) root → All P (beneath base root)
 all-beneath P base [] h = tt
 all-beneath P base (e ∷ es) h = all-join P (base (e .page)) (beneath base es) (h .0) (all-beneath P base es (h .1))
 
-all-weaken : (P Q : Entry → Type 0) (es : List Entry) → ((e : Entry) → P e → Q e) → All P es → All Q es
-all-weaken P Q [] f h = tt
-all-weaken P Q (e ∷ es) f h = (f e (h .0), all-weaken P Q es f (h .1))
-
 -- ---- tidy pages
 
 module _ (w : List ℕ) (tidy : Tidy w) where
+  -- they are pages of bytes in form
   pub sound : Sound w
   sound = record { whole = tidy .whole; bytes = tidy .bytes; form = tidy .form }
 
+  -- the tree that they show
   pub tree : Tree (rootOf w) (stateOf w)
   tree = to-tree w sound (tidy .tree)
 
@@ -76,6 +79,7 @@ module _ (w : List ℕ) (tidy : Tidy w) where
   pub root-basic : All (λ e. Basic (e .page)) (rootOf w)
   root-basic = pointing-ents 1 7 (entries (page 0 w)) (root-into w sound)
 
+  -- base entries point to leaf pages
   pub base-leafy : (p : ℕ) → Basic p → All (λ e. Leafy (e .page)) (baseOf w p)
   base-leafy p h = rw (base-at w p (h .0) (h .1)) (pointing-ents 8 63 (entries (page p w)) (base-into w sound p (h .0) (h .1)))
 
@@ -106,14 +110,15 @@ module _ (w : List ℕ) (tidy : Tidy w) where
   few-leaves =
       let inside : All (λ e. (8 ≤ e .page) × (e .page < 8 + 56)) (level (rootOf w) (stateOf w)) =
       all-beneath (λ e. (8 ≤ e .page) × (e .page < 8 + 56)) (baseOf w) (rootOf w)
-      (all-weaken (λ e. Basic (e .page)) (λ e. All (λ x. (8 ≤ x .page) × (x .page < 8 + 56)) (baseOf w (e .page))) (rootOf w)
-      (λ e h. all-weaken (λ x. Leafy (x .page)) (λ x. (8 ≤ x .page) × (x .page < 8 + 56)) (baseOf w (e .page)) (λ x k. (k .0, omega (arith, k .1)))
+      (all-map (λ e. Basic (e .page)) (λ e. All (λ x. (8 ≤ x .page) × (x .page < 8 + 56)) (baseOf w (e .page))) (rootOf w)
+      (λ e h. all-map (λ x. Leafy (x .page)) (λ x. (8 ≤ x .page) × (x .page < 8 + 56)) (baseOf w (e .page)) (λ x k. (k .0, omega (arith, k .1)))
       (base-leafy (e .page) h))
       root-basic) in
       omega (arith, tally-length 8 56 (level (rootOf w) (stateOf w)) inside, tally-most 8 56 (level (rootOf w) (stateOf w)) pointed-once)
 
   -- ---- a unit that runs over the tree is carried out, and the pages are tidy after it
 
+  -- given that its begin record is in form
   pub finish : (n : ℕ) (g : Begin) → beginOk g ≡ true → Apart (plan g) → n + length (plan g) ≤ 4294967296 → Kept (rootOf w) (plan g) (stateOf w) → Keeps n g w
   finish n g ok apart few kept =
       let shows : Shows w (stateOf w) = record { sound = sound; leaves = λ p. refl; bases = λ p. refl } in

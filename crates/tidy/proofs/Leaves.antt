@@ -19,20 +19,23 @@ use Rattle.tidy.proofs.Model.{Entry, pointers, beneath, State}
 use Rattle.tidy.proofs.Trail.{eq?, pointers-append}
 use Rattle.tidy.proofs.Entries.{ent, ents}
 use Rattle.tidy.proofs.Pages.{rootOf}
-use Rattle.tidy.proofs.Below.{Into, into, root-is, root-into, under-page, base-into, base-under, leaf-under}
+use Rattle.tidy.proofs.Tests.{Into, into}
+use Rattle.tidy.proofs.Below.{root-is, root-into, under-page, base-into, base-under, leaf-under}
 use Rattle.tidy.proofs.Formed.{stateOf}
 
 module _ (s : State) where
-  -- the leaf of an entry in the base page b, and all leaves below root entries
+  -- the leaf of an entry in the base page b
   abbrev pub leafFor : ℕ → Entry → Leaf
   leafFor b x = record { base = b; at = x .page; count = length (s .leaf (x .page)); first = keyOf (getD (s .leaf (x .page)) 0 []) }
 
+  -- all leaves below root entries
   abbrev pub leavesAll : List Entry → List Leaf
   leavesAll [] = []
   leavesAll (e ∷ es) = map (leafFor (e .page)) (s .base (e .page)) ++ leavesAll es
 
   -- ---- where a leaf stands
 
+  -- the leaf c has the entry `entry` in the base page of the root entry `top`, and `next` come after it
   pub record Spot (root : List Entry) (c : Leaf) (next : List Leaf) : Type 0 where
     pub left : List Entry
     pub top : Entry
@@ -66,6 +69,7 @@ module _ (s : State) where
   in-page e es xs (z ∷ zs) (b ∷ bs) c next h q =
       in-page e es (xs ++ z ∷ []) zs bs c next (h ∙ sym (append-assoc xs (z ∷ []) zs)) (cc)
 
+  -- one root entry more in front
   deeper : (e : Entry) {es : List Entry} {c : Leaf} {next : List Leaf} → Spot es c next → Spot (e ∷ es) c next
   deeper e p =
       record {
@@ -81,9 +85,11 @@ module _ (s : State) where
         others = p .others;
       }
 
+  -- there is no leaf in an empty list
   nil-cons : (b : List Leaf) (c : Leaf) (next : List Leaf) → [] ≡ b ++ c ∷ next → ⊥
   nil-cons b c next e = let z = ap length e ∙ length-append b (c ∷ next) in omega arith
 
+  -- each leaf has its place
   pub spot : (root : List Entry) (before : List Leaf) (c : Leaf) (next : List Leaf) → leavesAll root ≡ before ++ c ∷ next → Spot root c next
   spot [] before c next q = absurd (nil-cons before c next q)
   spot (e ∷ es) before c next q =
@@ -96,6 +102,7 @@ module _ (s : State) where
 
   -- ---- leaves and entries are as many, and point alike
 
+  -- there are as many leaves as entries
   pub length-leaves : (root : List Entry) → length (leavesAll root) ≡ length (beneath (s .base) root)
   length-leaves [] = refl
   length-leaves (e ∷ es) =
@@ -111,14 +118,17 @@ module _ (s : State) where
   standing p [] = 0
   standing p (l ∷ ls) = cond (eqb (l .at) p) 1 0 + standing p ls
 
+  -- in two lists
   standing-append : (p : ℕ) (a b : List Leaf) → standing p (a ++ b) ≡ standing p a + standing p b
   standing-append p [] b = omega arith
   standing-append p (l ∷ a) b = omega (arith, standing-append p a b)
 
+  -- in one base page
   standing-page : (p b : ℕ) (es : List Entry) → standing p (map (leafFor b) es) ≡ pointers p es
   standing-page p b [] = refl
   standing-page p b (e ∷ es) = ap (λ (n : ℕ). cond (eqb (e .page) p) 1 0 + n) (standing-page p b es)
 
+  -- in the tree
   pub standing-all : (p : ℕ) (root : List Entry) → standing p (leavesAll root) ≡ pointers p (beneath (s .base) root)
   standing-all p [] = refl
   standing-all p (e ∷ es) =
@@ -135,6 +145,7 @@ module _ (s : State) where
     pub on : leaf .at ≡ p
     pub under-base : baseOf p ls ≡ leaf .base
 
+  -- one that is counted is there
   pub stands : (p : ℕ) (ls : List Leaf) → 1 ≤ standing p ls → Standing p ls
   unfolding baseOf
   stands p [] h = absurd (omega arith)
@@ -164,11 +175,13 @@ module _ (s : State) where
 -- ---- the leaves that the choice sees are these
 
 module _ (w : List ℕ) (sound : Sound w) where
+  -- one leaf
   one-leaf : (b : ℕ) (e : List ℕ) → 8 ≤ toPage e → toPage e ≤ 63 → leafAt (pages w) b e ≡ leafFor (stateOf w) b (ent e)
   unfolding leafAt
   one-leaf b e h k =
       ap (λ (rs : List (List ℕ)). record { base = b; at = toPage e; count = length rs; first = keyOf (getD rs 0 []) }) (sym (leaf-under w sound e h k))
 
+  -- those of a base page
   page-leaves : (b : ℕ) (es : List (List ℕ)) → pointing 8 63 es ≡ true → leavesUnder (pages w) b es ≡ map (leafFor (stateOf w) b) (ents es)
   unfolding leavesUnder
   page-leaves b [] h = refl
@@ -176,6 +189,7 @@ module _ (w : List ℕ) (sound : Sound w) where
       let i : Into 8 63 e es = into 8 63 e es h in
       ap₂ (λ (x : Leaf) (xs : List Leaf). x ∷ xs) (one-leaf b e (i .low) (i .high)) (page-leaves b es (i .rest))
 
+  -- those below root entries
   below-leaves : (es : List (List ℕ)) → pointing 1 7 es ≡ true → leavesBelow (pages w) es ≡ leavesAll (stateOf w) (ents es)
   unfolding leavesBelow
   below-leaves [] h = refl
@@ -186,6 +200,7 @@ module _ (w : List ℕ) (sound : Sound w) where
       (page-leaves (toPage e) (entries (under (pages w) e)) q ∙ ap (map (leafFor (stateOf w) (toPage e))) (sym (base-under w sound e (i .low) (i .high))))
       (below-leaves es (i .rest))
 
+  -- all of them
   pub leaves-of : leavesOf (pages w) ≡ leavesAll (stateOf w) (rootOf w)
   unfolding leavesOf
   leaves-of = ap (leavesBelow (pages w)) (root-is w sound) ∙ below-leaves (entries (page 0 w)) (root-into w sound)

@@ -12,9 +12,11 @@ pub mod Compact
 pub mod Entries
 pub mod Pages
 pub mod Next
+pub mod Shown
 pub mod Step
 pub mod Carry
 pub mod Keys
+pub mod Tests
 pub mod Below
 pub mod Formed
 pub mod Leaves
@@ -22,4 +24,5 @@ pub mod Chosen
 pub mod Begun
 pub mod Known
 pub mod Group
+pub mod Logged
 pub mod Theorem

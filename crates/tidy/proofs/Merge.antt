@@ -17,11 +17,13 @@ module _ {Item : Type 0} (key : Item → ℕ) (f : ℕ → List Item) (a b : ℕ
   trail-other [] h k = refl
   trail-other (e ∷ es) h k = rw (miss (eqb (e .page) a) _ h, miss (eqb (e .page) b) _ k, trail-other es (omega arith) (omega arith))
 
+  -- nor does what stands there
   beneath-other : (es : List Entry) → pointers a es ≡ 0 → pointers b es ≡ 0 → beneath (merged a b f) es ≡ beneath f es
   beneath-other [] h k = refl
   beneath-other (e ∷ es) h k = rw (miss (eqb (e .page) a) _ h, miss (eqb (e .page) b) _ k, beneath-other es (omega arith) (omega arith))
 
 module _ {Item : Type 0} (key : Item → ℕ) (f : ℕ → List Item) (pre : List Entry) (x y : Entry) (post : List Entry) (w : Well key f (pre ++ x ∷ y ∷ post)) where
+  -- the pointers to page p
   counts : (p : ℕ) → pointers p pre + (cond (eqb (x .page) p) 1 0 + (cond (eqb (y .page) p) 1 0 + pointers p post)) ≡ full (f p)
   counts p = sym (pointers-append p pre (x ∷ y ∷ post)) ∙ w .pointed p
 
@@ -36,15 +38,18 @@ module _ {Item : Type 0} (key : Item → ℕ) (f : ℕ → List Item) (pre : Lis
         λ e. let v = rw (eq-eqb (y .page) (x .page) (sym e)) at u in omega (arith, v, full≤ (f (x .page))),
       )
 
+  -- nor is the second
   pub b-once : (pointers (y .page) pre ≡ 0) × (pointers (y .page) post ≡ 0)
   b-once =
       let u : pointers (y .page) pre + (cond (eqb (x .page) (y .page)) 1 0 + (1 + pointers (y .page) post)) ≡ full (f (y .page)) =
       rw (eq-eqb (y .page) (y .page) refl) at (counts (y .page)) in
       (omega (arith, full≤ (f (y .page))), omega (arith, full≤ (f (y .page))))
 
+  -- the first page holds something
   a-full : 1 ≤ full (f (x .page))
   a-full = omega (arith, rw (eq-eqb (x .page) (x .page) refl) at (counts (x .page)))
 
+  -- the trail after the merge
   merged-trail : trail key (merged (x .page) (y .page) f) (pre ++ x ∷ post)
       ≡ (trail key f pre ++ (2 * x .key ∷ marks key (f (x .page)))) ++ (marks key (f (y .page)) ++ trail key f post)
   merged-trail =
@@ -62,13 +67,16 @@ module _ {Item : Type 0} (key : Item → ℕ) (f : ℕ → List Item) (pre : Lis
   abbrev Pointed : ℕ → Type 0
   Pointed p = pointers p pre + (cond (eqb (x .page) p) 1 0 + pointers p post) ≡ full (merged (x .page) (y .page) f p)
 
+  -- the first page
   at-a : Pointed (x .page)
   at-a = rw (eq-eqb (x .page) (x .page) refl, full-append (f (x .page)) (f (y .page)) a-full) (omega (arith, a-once))
 
+  -- the second page
   at-b : y .page ≢ x .page → Pointed (y .page)
   at-b d =
       rw (ne-eqb (x .page) (y .page) (λ e. d (sym e)), ne-eqb (y .page) (x .page) d, eq-eqb (y .page) (y .page) refl) (omega (arith, b-once))
 
+  -- any other page
   other : (p : ℕ) → p ≢ x .page → p ≢ y .page → Pointed p
   other p d e = rw (ne-eqb p (x .page) d, ne-eqb p (y .page) e) (omega (arith, rw (ne-eqb (y .page) p (λ k. e (sym k))) at (counts p)))
 

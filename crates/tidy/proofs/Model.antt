@@ -10,6 +10,7 @@ use lib.Dec.{eqb}
 use lib.ListN.{length}
 use Rattle.page.specs.Page.{keyOf}
 
+-- an entry: its key, and the page that it points to
 pub record Entry : Type 0 where
   pub key : ℕ
   pub page : ℕ
@@ -19,11 +20,12 @@ abbrev pub Ascends : ℕ → List ℕ → Type 0
 Ascends lo [] = Unit {0}
 Ascends lo (x ∷ xs) = (lo ≤ x) × Ascends (suc x) xs
 
--- how many entries point to page p; 1 for a page that holds something, 0 for an empty one
+-- how many entries point to page p
 abbrev pub pointers : ℕ → List Entry → ℕ
 pointers p [] = 0
 pointers p (e ∷ es) = cond (eqb (e .page) p) 1 0 + pointers p es
 
+-- 1 for a page that holds something, 0 for an empty one
 abbrev pub full : {A : Type 0} → List A → ℕ
 full [] = 0
 full (x ∷ xs) = 1
@@ -34,10 +36,12 @@ module _ {Item : Type 0} (key : Item → ℕ) where
   abbrev pub marks : List Item → List ℕ
   marks is = map (λ i. 2 * key i + 1) is
 
+  -- the keys of entries, each with the marks of its page behind it
   abbrev pub trail : (ℕ → List Item) → List Entry → List ℕ
   trail f [] = []
   trail f (e ∷ es) = 2 * e .key ∷ (marks (f (e .page)) ++ trail f es)
 
+  -- the trail ascends, and a page is pointed to once if it holds something, else never
   pub record Well (f : ℕ → List Item) (es : List Entry) : Type 0 where
     pub ascends : Ascends 0 (trail f es)
     pub pointed : (p : ℕ) → pointers p es ≡ full (f p)
@@ -62,19 +66,21 @@ abbrev pub strip : (k old : ℕ) → List Entry → List Entry
 strip k old [] = []
 strip k old (e ∷ es) = cond (eqb (e .key) k) (cond (eqb (e .page) old) (strip k old es) (e ∷ strip k old es)) (e ∷ strip k old es)
 
--- the key of the lowest entry to the old page, but for the one with the key to skip
+-- is this the key to skip
 abbrev pub skips : Option ℕ → ℕ → Bool
 skips none k = false
 skips (some j) k = eqb k j
 
+-- the key of the lowest entry to the old page, but for the one to skip
 abbrev pub lowest : Option ℕ → ℕ → List Entry → Option ℕ
 lowest skip old [] = none
 lowest skip old (e ∷ es) = cond (eqb (e .page) old) (cond (skips skip (e .key)) (lowest skip old es) (some (e .key))) (lowest skip old es)
 
--- pages a and b for one another, and an entry with its page so renamed
+-- pages a and b for one another
 abbrev pub exch : ℕ → ℕ → ℕ → ℕ
 exch a b p = cond (eqb p a) b (cond (eqb p b) a p)
 
+-- an entry with its page renamed
 abbrev pub to : (ℕ → ℕ) → Entry → Entry
 to f e = record { key = e .key; page = f (e .page) }
 
@@ -84,16 +90,20 @@ merged a b f p = cond (eqb p a) (f a ++ f b) (cond (eqb p b) [] (f p))
 
 -- ---- the tree
 
+-- what stands on each page
 pub record State : Type 0 where
   pub leaf : ℕ → List (List ℕ)
   pub base : ℕ → List Entry
 
+-- made of its two functions
 abbrev pub state : (ℕ → List (List ℕ)) → (ℕ → List Entry) → State
 state l b = record { leaf = l; base = b }
 
+-- an entry's key, as a function
 abbrev pub entry-key : Entry → ℕ
 entry-key e = e .key
 
+-- the first key, 0 where there is none
 abbrev pub first : List Entry → ℕ
 first [] = 0
 first (e ∷ es) = e .key
@@ -103,10 +113,11 @@ abbrev pub Heads : (ℕ → List Entry) → List Entry → Type 0
 Heads b [] = Unit {0}
 Heads b (e ∷ es) = (first (b (e .page)) ≡ e .key) × Heads b es
 
--- all entries of base pages, and all records
+-- all entries of base pages
 abbrev pub level : List Entry → State → List Entry
 level root s = beneath (s .base) root
 
+-- all records
 abbrev pub contents : List Entry → State → List (List ℕ)
 contents root s = beneath (s .leaf) (level root s)
 

@@ -17,10 +17,12 @@ use Rattle.tidy.proofs.Place.{all-zip, only, once, never, x-full, rises
 
 -- ---- entries by entries
 
+-- two functions that agree on these entries
 pub map-all : (P : Entry → Type 0) (f g : Entry → Entry) (es : List Entry) → ((e : Entry) → P e → f e ≡ g e) → All P es → map f es ≡ map g es
 map-all P f g [] h a = refl
 map-all P f g (e ∷ es) h a = λ i. h e (a .0) i ∷ map-all P f g es h (a .1) i
 
+-- one that leaves these entries as they are
 pub map-id : (P : Entry → Type 0) (f : Entry → Entry) (es : List Entry) → ((e : Entry) → P e → f e ≡ e) → All P es → map f es ≡ es
 map-id P f [] h a = refl
 map-id P f (e ∷ es) h a = λ i. h e (a .0) i ∷ map-id P f es h (a .1) i
@@ -29,9 +31,11 @@ map-id P f (e ∷ es) h a = λ i. h e (a .0) i ∷ map-id P f es h (a .1) i
 pub redirect-hit : (k old new : ℕ) (e : Entry) → e .key ≡ k → e .page ≡ old → redirect k old new e ≡ record { key = e .key; page = new }
 redirect-hit k old new e h g = rw (eq-eqb (e .key) k h, eq-eqb (e .page) old g)
 
+-- another key
 pub redirect-key : (k old new : ℕ) (e : Entry) → e .key ≢ k → redirect k old new e ≡ e
 redirect-key k old new e h = rw (ne-eqb (e .key) k h)
 
+-- another page
 pub redirect-page : (k old new : ℕ) (e : Entry) → e .page ≢ old → redirect k old new e ≡ e
 redirect-page k old new e h = go (eqb (e .key) k)
   where
@@ -39,6 +43,7 @@ redirect-page k old new e h = go (eqb (e .key) k)
     go true = rw (ne-eqb (e .page) old h)
     go false = refl
 
+-- an entry renamed
 pub to-at : (a b p : ℕ) (e : Entry) → exch a b (e .page) ≡ p → to (exch a b) e ≡ record { key = e .key; page = p }
 to-at a b p e h = rw h
 
@@ -46,18 +51,23 @@ to-at a b p e h = rw h
 
 module _ (root : List Entry) (s : State) (t : Tree root s) (x : Entry) (p : ℕ) (xs ys : List Entry) (x-in : s .base p ≡ xs ++ x ∷ ys)
     (b : ℕ) (none : s .leaf b ≡ []) (short : length (s .leaf (x .page)) ≤ 15) where
+  -- the leaf's page
   abbrev a : ℕ
   a = x .page
 
+  -- what stands on the leaf pages
   abbrev leaf : ℕ → List (List ℕ)
   leaf = s .leaf
 
+  -- what the LM does
   abbrev r : Entry → Entry
   r = redirect (x .key) a b
 
+  -- the leaf does not stand on the empty page
   pub apart : a ≢ b
   apart e = let z = ap (λ (q : ℕ). full (s .leaf q)) e ∙ ap full none in omega (arith, x-full root s t x p xs ys x-in)
 
+  -- LO and LI exchange the two pages
   leaf-end : (i : ℕ) → upd (upd leaf a []) b (leaf a) i ≡ leaf (exch a b i)
   leaf-end i =
       ⊎-elim
@@ -68,6 +78,7 @@ module _ (root : List Entry) (s : State) (t : Tree root s) (x : Entry) (p : ℕ)
       (eq? i b))
       (eq? i a)
 
+  -- the LM renames each entry
   one : (e : Entry) → (e .page ≡ a → e .key ≡ x .key) × (e .page ≢ b) → r e ≡ to (exch a b) e
   one e h =
       ⊎-elim
@@ -75,6 +86,7 @@ module _ (root : List Entry) (s : State) (t : Tree root s) (x : Entry) (p : ℕ)
       (λ (d : e .page ≢ a). redirect-page (x .key) a b e d ∙ sym (to-at a b (e .page) e (exch-other a b (e .page) d (h .1))))
       (eq? (e .page) a)
 
+  -- so it does in every base page
   base-end : (i : ℕ) → upd (s .base) p (map r (s .base p)) i ≡ map (to (exch a b)) (s .base i)
   base-end i =
       ⊎-elim

@@ -30,7 +30,7 @@ pub root-form : (pg : List ℕ) → formed 0 pg ≡ true → isRoot pg ≡ true
 unfolding formed pick
 root-form pg e = rw (eq-eqb 0 0 refl) at e
 
--- a base page, a leaf page: empty or what it should be
+-- a base page: empty, or of entries
 pub base-form : (p : ℕ) (pg : List ℕ) → 1 ≤ p → p ≤ 7 → formed p pg ≡ true → (isEmpty pg ≡ true) ⊎ (isBase pg ≡ true)
 unfolding formed
 base-form p pg h k e = by-tests (eqb p 0) (ne-eqb p 0 (λ z. omega arith)) (leb p 7) (le-leb p 7 k) e
@@ -39,6 +39,7 @@ base-form p pg h k e = by-tests (eqb p 0) (ne-eqb p 0 (λ z. omega arith)) (leb 
         → (isEmpty pg ≡ true) ⊎ (isBase pg ≡ true)
     by-tests t a u b f = pick-or (isEmpty pg) (isBase pg) (unfold pick in (rw (a, b) at f))
 
+-- a leaf page: empty, or of records
 pub leaf-form : (p : ℕ) (pg : List ℕ) → 8 ≤ p → formed p pg ≡ true → (isEmpty pg ≡ true) ⊎ (isLeaf pg ≡ true)
 unfolding formed
 leaf-form p pg h e = by-tests (eqb p 0) (ne-eqb p 0 (λ z. omega arith)) (leb p 7) (lt-leb p 7 h) e
@@ -57,20 +58,24 @@ pub leaf-rows : (pg : List ℕ) → isLeaf pg ≡ true → Fill leaf (records pg
 unfolding isLeaf
 leaf-rows pg e = fill-of leaf pg fit-leaf e
 
+-- a base page has entries
 pub base-rows : (pg : List ℕ) → isBase pg ≡ true → Fill base (entries pg)
 unfolding isBase
 base-rows pg e = fill-of base pg fit-base (both-1 _ _ e)
 
+-- the root may have some
 pub root-rows : (pg : List ℕ) → isRoot pg ≡ true → Fill root (entries pg)
 unfolding isRoot
 root-rows pg e = fill-of root pg fit-root (both-1 _ _ e)
 
+-- the root's entries point to base pages
 pub root-pointing : (pg : List ℕ) → isRoot pg ≡ true → pointing 1 7 (entries pg) ≡ true
 unfolding isRoot
 root-pointing pg e = both-2 _ _ e
 
 -- ---- 64 pages of bytes in form
 
+-- each page is in form
 pub sound-page : (p : ℕ) (w : List ℕ) → Sound w → p < 64 → formed p (page p w) ≡ true
 sound-page p w h k = formed-page p w (h .form) k
 
@@ -81,30 +86,38 @@ page-past p w e h = let k : length w ≤ 256 * p = omega arith in rw (drop-of-le
 
 -- ---- what stands on each page
 
+-- the records of a leaf page
 abbrev pub leafOf : List ℕ → ℕ → List (List ℕ)
 leafOf w p = cond (leb 8 p) (records (page p w)) []
 
+-- the entries of a base page
 abbrev pub baseOf : List ℕ → ℕ → List Entry
 baseOf w p = cond (leb 1 p) (cond (leb p 7) (ents (entries (page p w))) []) []
 
+-- the root's entries
 abbrev pub rootOf : List ℕ → List Entry
 rootOf w = ents (entries (page 0 w))
 
+-- of a leaf page
 pub leaf-at : (w : List ℕ) (p : ℕ) → 8 ≤ p → leafOf w p ≡ records (page p w)
 leaf-at w p h = rw (le-leb 8 p h)
 
+-- of any other
 pub leaf-not : (w : List ℕ) (p : ℕ) → p < 8 → leafOf w p ≡ []
 leaf-not w p h = rw (lt-leb 8 p h)
 
+-- of a base page
 pub base-at : (w : List ℕ) (p : ℕ) → 1 ≤ p → p ≤ 7 → baseOf w p ≡ ents (entries (page p w))
 base-at w p h k = rw (le-leb 1 p h, le-leb p 7 k)
 
+-- of any other
 pub base-not : (w : List ℕ) (p : ℕ) → (p ≡ 0) ⊎ (8 ≤ p) → baseOf w p ≡ []
 base-not w p s = ⊎-elim (λ (e : p ≡ 0). rw (lt-leb 1 p (omega arith))) (λ (h : 8 ≤ p). rw (le-leb 1 p (omega arith), lt-leb p 7 h)) s
 
 -- ---- a page replaced
 
 module _ (p : ℕ) (pg w : List ℕ) (sound : Sound w) (small : p < 64) (long : length pg ≡ 256) where
+  -- the pages stay in form
   pub sound-put : Bytes pg → formed p pg ≡ true → Sound (putPage p pg w)
   sound-put b f =
       record {
@@ -113,9 +126,11 @@ module _ (p : ℕ) (pg w : List ℕ) (sound : Sound w) (small : p < 64) (long : 
         form = formed-putPage p pg w (sound .whole) small long f (sound .form);
       }
 
+  -- the page itself
   pub page-same : page p (putPage p pg w) ≡ pg
   page-same = page-putPage-same p w (sound .whole) small pg long
 
+  -- any other page
   pub page-other : (q : ℕ) → q ≢ p → page q (putPage p pg w) ≡ page q w
   page-other q d =
       split q 64
@@ -130,6 +145,7 @@ module _ (p : ℕ) (pg w : List ℕ) (sound : Sound w) (small : p < 64) (long : 
       (λ (d : q ≢ p). rw (ne-eqb q p d, page-other q d))
       (eq? q p)
 
+  -- base pages stay
   pub put-leaf-base : 8 ≤ p → (q : ℕ) → baseOf w q ≡ baseOf (putPage p pg w) q
   put-leaf-base h q =
       split q 8
@@ -144,6 +160,7 @@ module _ (p : ℕ) (pg w : List ℕ) (sound : Sound w) (small : p < 64) (long : 
       (λ (d : q ≢ p). rw (ne-eqb q p d, page-other q d))
       (eq? q p)
 
+  -- leaf pages stay
   pub put-base-leaf : p ≤ 7 → (q : ℕ) → leafOf w q ≡ leafOf (putPage p pg w) q
   put-base-leaf h q =
       split q 8

@@ -13,15 +13,19 @@ use Rattle.tidy.proofs.Model.{Entry, pointers, full, marks, trail, Well
 use Rattle.tidy.proofs.Trail.{eq?}
 
 module _ (a b : ℕ) where
+  -- a becomes b
   pub exch-a : exch a b a ≡ b
   exch-a = rw (eq-eqb a a refl)
 
+  -- b becomes a
   pub exch-b : exch a b b ≡ a
   exch-b = ⊎-elim (λ (e : b ≡ a). rw (eq-eqb b a e) e) (λ d. rw (ne-eqb b a d, eq-eqb b b refl)) (eq? b a)
 
+  -- any other page stays
   pub exch-other : (p : ℕ) → p ≢ a → p ≢ b → exch a b p ≡ p
   exch-other p d e = rw (ne-eqb p a d, ne-eqb p b e)
 
+  -- twice is as it was
   pub exch-twice : (p : ℕ) → exch a b (exch a b p) ≡ p
   exch-twice p =
       ⊎-elim
@@ -35,14 +39,17 @@ module _ (a b : ℕ) where
 -- ---- one level, by any renaming that is its own inverse
 
 module _ {Item : Type 0} (key : Item → ℕ) (f : ℕ → ℕ) (twice : (p : ℕ) → f (f p) ≡ p) (l : ℕ → List Item) where
+  -- the trail stays
   trail-to : (es : List Entry) → trail key (λ p. l (f p)) (map (to f) es) ≡ trail key l es
   trail-to [] = refl
   trail-to (e ∷ es) = rw (twice (e .page), trail-to es)
 
+  -- so does what stands below
   beneath-to : (es : List Entry) → beneath (λ p. l (f p)) (map (to f) es) ≡ beneath l es
   beneath-to [] = refl
   beneath-to (e ∷ es) = rw (twice (e .page), beneath-to es)
 
+  -- the pointers are those to the other page
   pointers-to : (p : ℕ) (es : List Entry) → pointers p (map (to f) es) ≡ pointers (f p) es
   pointers-to p [] = refl
   pointers-to p (e ∷ es) = ap₂ (λ (b : Bool) (n : ℕ). cond b 1 0 + n) same (pointers-to p es)
@@ -53,38 +60,46 @@ module _ {Item : Type 0} (key : Item → ℕ) (f : ℕ → ℕ) (twice : (p : �
         | no h ↦ ne-eqb _ _ (λ k. h (sym (twice (e .page)) ∙ ap f k)) ∙ sym (ne-eqb _ _ h)
       ]
 
+  -- the level stays well formed
   renamed : (es : List Entry) → Well key l es → Well key (λ p. l (f p)) (map (to f) es)
   renamed es w = record { ascends = rw (trail-to es) (w .ascends); pointed = λ p. pointers-to p es ∙ w .pointed (f p) }
 
 -- ---- the whole tree
 
 module _ (f : ℕ → ℕ) where
+  -- the marks of entries stay
   marks-to : (es : List Entry) → marks entry-key (map (to f) es) ≡ marks entry-key es
   marks-to [] = refl
   marks-to (e ∷ es) = rw (marks-to es)
 
+  -- a base page is full as before
   full-to : (es : List Entry) → full (map (to f) es) ≡ full es
   full-to [] = refl
   full-to (e ∷ es) = refl
 
+  -- its first key stays
   first-to : (es : List Entry) → first (map (to f) es) ≡ first es
   first-to [] = refl
   first-to (e ∷ es) = refl
 
   module _ (base : ℕ → List Entry) where
+    -- the upper trail stays
     trail-same : (root : List Entry) → trail entry-key (λ q. map (to f) (base q)) root ≡ trail entry-key base root
     trail-same [] = refl
     trail-same (e ∷ es) = rw (marks-to (base (e .page)), trail-same es)
 
+    -- first keys stay
     heads-same : (root : List Entry) → Heads base root → Heads (λ q. map (to f) (base q)) root
     heads-same [] h = tt
     heads-same (e ∷ es) h = (first-to (base (e .page)) ∙ h .0, heads-same es (h .1))
 
+    -- all entries are renamed
     level-to : (root : List Entry) → beneath (λ q. map (to f) (base q)) root ≡ map (to f) (beneath base root)
     level-to [] = refl
     level-to (e ∷ es) = rw (level-to es) (sym (map-append (to f) (base (e .page)) (beneath base es)))
 
 module _ (f : ℕ → ℕ) (twice : (p : ℕ) → f (f p) ≡ p) where
+  -- the tree renamed
   abbrev pub renaming : State → State
   renaming s = state (λ p. s .leaf (f p)) (λ q. map (to f) (s .base q))
 
@@ -101,5 +116,6 @@ module _ (f : ℕ → ℕ) (twice : (p : ℕ) → f (f p) ≡ p) where
         lower = rw (level-to f (s .base) root) (renamed keyOf f twice (s .leaf) (level root s) (t .lower));
       }
 
+  -- with the same records
   pub renamed-contents : (root : List Entry) (s : State) → contents root (renaming s) ≡ contents root s
   renamed-contents root s = rw (level-to f (s .base) root) (beneath-to keyOf f twice (s .leaf) (level root s))

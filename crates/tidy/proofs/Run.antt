@@ -44,6 +44,7 @@ pub record Kept (root : List Entry) (xs : List Step) (s : State) : Type 0 where
 
 -- ---- steps in front
 
+-- LE
 pub close-on : (u : ℕ) (s : State) → Always (close u ∷ []) s s
 close-on u s did = (LE u ∷ [], closes done)
 
@@ -58,12 +59,13 @@ pair-on p d xs l b s′ v f e h a k did =
     let r = k′ did′ in
     (LO p d (l p) ∷ LI p d 1 (l p) ∷ r .0, takes f (brings {d = d} {l = upd l p []} {b = b} (l p) refl f (rw e h) (rw e a) (r .1)))
 
--- an LM that points elsewhere, and one that removes
+-- an LM that points elsewhere
 pub point-on : (q old new k : ℕ) (xs : List Step) (l : ℕ → List (List ℕ)) (b : ℕ → List Entry) (s′ : State) → 1 ≤ new → lowest none old (b q) ≡ some k
     → Always xs (state l (upd b q (map (redirect k old new) (b q)))) s′ → Always (point q old new false ∷ xs) (state l b) s′
 unfolding skipped pick
 point-on q old new k xs l b s′ h e r did = let t = r (LM q old new k ∷ did) in (LM q old new k ∷ t .0, points k h e (t .1))
 
+-- an LM that removes
 pub remove-on : (q old k : ℕ) (xs : List Step) (l : ℕ → List (List ℕ)) (b : ℕ → List Entry) (s′ : State) → lowest none old (b q) ≡ some k → 2 ≤ length (b q)
     → Always xs (state l (upd b q (strip k old (b q)))) s′ → Always (point q old 0 false ∷ xs) (state l b) s′
 unfolding skipped pick

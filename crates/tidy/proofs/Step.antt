@@ -2,9 +2,9 @@
 -- for it is appended, and the pages then show the tree after the step. Assumes nothing.
 use Prim.Native.Nat.{ℕ, zero, suc, _+_, _-_, _≤_, _<_}
 use native.Mathlib.Omega.{arith}
-use mathlib.Core.Path.{_≡_, refl, sym, ap, ap₂, _∙_}
-use mathlib.Core.Logic.{_≢_, _⊎_, inl, ⊎-elim}
-use mathlib.Core.Bool.{Bool, true, false, cond, false≢true}
+use mathlib.Core.Path.{_≡_, refl, sym, ap, _∙_}
+use mathlib.Core.Logic.{_⊎_, inl, ⊎-elim}
+use mathlib.Core.Bool.{Bool, true, false, false≢true}
 use mathlib.Core.List.{List, [], _∷_, _++_, map}
 use mathlib.Core.Option.{some}
 use borrow.Author.Tests.{eq-eqb, ne-eqb, le-leb}
@@ -14,7 +14,7 @@ use Rattle.field.specs.Test.{pick}
 use Rattle.field.specs.Bytes.{Bytes}
 use Rattle.field.proofs.Test.{both-2, both-intro, all-intro, all-nil, pick-true, pick-false, pick-second, when-true, bind-intro}
 use Rattle.field.proofs.Same.{eq-same}
-use Rattle.page.specs.Page.{joined, keyOf, ascend, ascendRecords, spare, made, base, leaf, empty, entries, records, shaped, isBase, isLeaf, isEmpty, formed}
+use Rattle.page.specs.Page.{joined, keyOf, ascend, ascendRecords, spare, made, base, leaf, empty, entries, records, shaped, isBase, isLeaf, isEmpty}
 use Rattle.page.specs.Change.{above, emptied, appended, has, pointTo, without, redirected, removed}
 use Rattle.page.specs.Pages.{page, putPage}
 use Rattle.page.proofs.Rows.{Each, each-append}
@@ -24,91 +24,16 @@ use Rattle.page.proofs.Rows.{length-rows}
 use Rattle.page.proofs.Kept.{Changed, bytes-rows, emptied-kept, appended-kept, redirected-kept, removed-kept, bytes-emptied, bytes-appended, bytes-redirected, bytes-removed}
 use Rattle.page.proofs.Pages.{bytes-page}
 use Rattle.log.specs.Record.{out, lengthOf, Rec, LO, LI, LM, LE, kindOf, carried, size}
-use Rattle.log.specs.Plan.{Step, takeOut, bringIn, point, close}
+use Rattle.log.specs.Plan.{Step, takeOut, bringIn, point}
 use Rattle.log.specs.Log.{taken}
 use Rattle.log.proofs.Valid.{Moved}
-use Rattle.unit.specs.Next.{target, change, changedAt, apply, targetOf, pageOf, skipped, lowestTo, nextRec, stepSize, room}
-use Rattle.unit.proofs.Places.{Leafy, Basic, Keeping, no-step, one-more}
+use Rattle.unit.specs.Next.{target, change, targetOf, pageOf, skipped, lowestTo, nextRec, stepSize, room}
+use Rattle.unit.proofs.Places.{Leafy, Basic}
 use Rattle.page.proofs.Region.{empty-formed, leaf-formed, base-formed}
-use Rattle.tidy.specs.Tidy.{Sound, InForm}
-use Rattle.tidy.proofs.Model.{Entry, Ascends, full, upd, redirect, strip, lowest, State, state}
+use Rattle.tidy.proofs.Model.{Entry, Ascends, full, upd, redirect, strip, lowest, state}
 use Rattle.tidy.proofs.Entries.{ent, ents, lowest-ents, lowest-has, redirect-ents, strip-ents}
-use Rattle.tidy.proofs.Pages.{sound-page, sound-put, page-other, leafOf, baseOf, leaf-at, base-at, leaf-form, base-form, leaf-rows, base-rows, rows-empty, put-leaf, put-leaf-base, put-base, put-base-leaf, put-root}
-
--- the pages w show the tree s
-pub record Shows (w : List ℕ) (s : State) : Type 0 where
-  pub sound : Sound w
-  pub leaves : (p : ℕ) → s .leaf p ≡ leafOf w p
-  pub bases : (p : ℕ) → s .base p ≡ baseOf w p
-
--- every LO of these records carries rows that an LI can append
-abbrev pub AllMoved : List Rec → Type 0
-AllMoved [] = Unit {0}
-AllMoved (r ∷ did) = ((carried r ≡ []) ⊎ Moved (carried r)) × AllMoved did
-
--- page p is taken out by none of these steps
-abbrev pub Clear : ℕ → List Step → Type 0
-Clear p [] = Unit {0}
-Clear p (takeOut q d ∷ xs) = (q ≢ p) × Clear p xs
-Clear p (bringIn q d k ∷ xs) = Clear p xs
-Clear p (point b old new other ∷ xs) = Clear p xs
-Clear p (close u ∷ xs) = Clear p xs
-
--- a step x was made from the pages w, with the record r, and leads to the tree s′; the steps xs come after it
-pub record Stepped (n : ℕ) (did : List Rec) (x : Step) (xs : List Step) (w : List ℕ) (r : Rec) (s′ : State) : Type 0 where
-  pub now : List ℕ
-  pub form : InForm (targetOf x) w
-  pub next : nextRec x did (pageOf (targetOf x) w) ≡ some r
-  pub applied : apply n r w ≡ some now
-  pub counted : size r ≡ stepSize w x
-  pub left : room now xs ≡ room w xs
-  pub shows : Shows now s′
-  pub top : page 0 now ≡ page 0 w
-
--- ---- what a page replaced leaves of the room
-
-module _ (p : ℕ) (pg w : List ℕ) (sound : Sound w) (small : p < 64) (long : length pg ≡ 256) where
-  room-put : (xs : List Step) → Clear p xs → room (putPage p pg w) xs ≡ room w xs
-  unfolding room stepSize
-  room-put [] c = refl
-  room-put (takeOut q d ∷ xs) c = rw (page-other p pg w sound small long q (c .0), room-put xs (c .1))
-  room-put (bringIn q d k ∷ xs) c = rw (room-put xs c)
-  room-put (point b old new other ∷ xs) c = rw (room-put xs c)
-  room-put (close u ∷ xs) c = rw (room-put xs c)
-
--- steps that keep to the regions take out no base page
-pub base-clear : (p : ℕ) {xs : List Step} → p ≤ 7 → Keeping xs → Clear p xs
-base-clear p h no-step = tt
-base-clear p h (one-more {x = takeOut q d} k ks) = (λ e. omega (arith, k .0), base-clear p h ks)
-base-clear p h (one-more {x = bringIn q d b} k ks) = base-clear p h ks
-base-clear p h (one-more {x = point q old new other} k ks) = base-clear p h ks
-base-clear p h (one-more {x = close u} k ks) = base-clear p h ks
-
--- ---- a leaf page replaced, a base page replaced
-
-module _ (w : List ℕ) (l : ℕ → List (List ℕ)) (b : ℕ → List Entry) (sh : Shows w (state l b)) (p : ℕ) (pg : List ℕ) (long : length pg ≡ 256) (bytes : Bytes pg) where
-  shows-leaf : Leafy p → formed p pg ≡ true → (v : List (List ℕ)) → records pg ≡ v → Shows (putPage p pg w) (state (upd l p v) b)
-  shows-leaf h f v e =
-      let small : p < 64 = omega (arith, h .1) in
-      record {
-        sound = sound-put p pg w (sh .sound) small long bytes f;
-        leaves = λ q. ap₂ (λ (x y : List (List ℕ)). cond (eqb q p) x y) (sym e) (sh .leaves q) ∙ put-leaf p pg w (sh .sound) small long (h .0) q;
-        bases = λ q. sh .bases q ∙ put-leaf-base p pg w (sh .sound) small long (h .0) q;
-      }
-
-  shows-base : Basic p → formed p pg ≡ true → (v : List Entry) → ents (entries pg) ≡ v → Shows (putPage p pg w) (state l (upd b p v))
-  shows-base h f v e =
-      let small : p < 64 = omega (arith, h .1) in
-      record {
-        sound = sound-put p pg w (sh .sound) small long bytes f;
-        leaves = λ q. sh .leaves q ∙ put-base-leaf p pg w (sh .sound) small long (h .1) q;
-        bases = λ q. ap₂ (λ (x y : List Entry). cond (eqb q p) x y) (sym e) (sh .bases q) ∙ put-base p pg w (sh .sound) small long (h .0) (h .1) q;
-      }
-
--- a record's change of its page is its change of the pages
-applies : (n p : ℕ) (r : Rec) (w pg : List ℕ) → target r ≡ some p → change n r (page p w) ≡ some pg → apply n r w ≡ some (putPage p pg w)
-unfolding apply changedAt
-applies n p r w pg t e = rw t (bind-intro (change n r (page p w)) (λ (q : List ℕ). some (putPage p q w)) pg e)
+use Rattle.tidy.proofs.Pages.{sound-page, leaf-at, base-at, leaf-form, base-form, leaf-rows, base-rows, rows-empty, put-root}
+use Rattle.tidy.proofs.Shown.{Shows, AllMoved, Clear, Stepped, room-put, shows-leaf, shows-base, applies}
 
 -- ---- LO
 
@@ -122,6 +47,7 @@ module _ (n : ℕ) (did : List Rec) (xs : List Step) (w : List ℕ) (l : ℕ →
       (λ (e : isLeaf (page p w) ≡ true). e)
       (leaf-form p (page p w) (h .0) (sound-page p w (sh .sound) (omega (arith, h .1))))
 
+  -- its records are rows that an LI can append
   leaf-moved : (p : ℕ) → Leafy p → 1 ≤ full (l p) → Moved (records (page p w))
   leaf-moved p h f =
       let g : Fill leaf (records (page p w)) = leaf-rows (page p w) (is-leaf p h f) in
@@ -133,6 +59,7 @@ module _ (n : ℕ) (did : List Rec) (xs : List Step) (w : List ℕ) (l : ℕ →
         order = g .order;
       }
 
+  -- an LO
   pub out-step : (p d : ℕ) → Leafy p → Clear p xs → 1 ≤ full (l p)
       → Stepped n did (takeOut p d) xs w (LO p d (l p)) (state (upd l p []) b) × Moved (l p)
   unfolding nextRec targetOf pageOf stepSize size kindOf carried target change emptied isEmpty
@@ -167,6 +94,7 @@ in-order a b lo (r ∷ rs) (Each.cons m ms) h =
     let k : suc (keyOf r) ≡ keyOf r + 1 = omega arith in
     ascend-of a b lo r rs (record { one = m .0; two = m .1; low = h .0; after = in-order a b (keyOf r + 1) rs ms (rw k at (h .1)) })
 
+-- rows in order bear marks
 marked : (a b lo : ℕ) (rs : List (List ℕ)) → ascend a b lo rs ≡ true → Each (λ r. (getD r 0 0 ≡ a) × (getD r 1 0 ≡ b)) rs
 marked a b lo [] e = Each.nil
 marked a b lo (r ∷ rs) e = let f : First a b lo r rs = ascend-facts a b lo r rs e in Each.cons (f .one, f .two) (marked a b (keyOf r + 1) rs (f .after))
@@ -192,6 +120,7 @@ module _ (n : ℕ) (did : List Rec) (xs : List Step) (w : List ℕ) (l : ℕ →
       (λ (e : isLeaf (page p w) ≡ true). leaf-rows (page p w) e .order)
       (leaf-form p (page p w) (h .0) (sound-page p w (sh .sound) (omega (arith, h .1))))
 
+  -- an LI
   pub in-step : (p d back : ℕ) (v : List (List ℕ)) → Leafy d → Clear d xs → AllMoved did → v ≡ taken back did → 1 ≤ full v → length (l d ++ v) ≤ 15
       → Ascends 0 (map keyOf (l d ++ v)) → Stepped n did (bringIn p d back) xs w (LI p d back v) (state (upd l d (l d ++ v)) b)
   unfolding nextRec targetOf pageOf stepSize size kindOf carried target change appended taken
@@ -231,15 +160,19 @@ module _ (n : ℕ) (did : List Rec) (xs : List Step) (w : List ℕ) (l : ℕ →
   -- ---- LM
 
   module _ (q old k : ℕ) (other : Bool) (h : Basic q) (c : Clear q xs) (found : lowest (skipped other did) old (b q) ≡ some k) where
+    -- the entries that the page shows
     shown : b q ≡ ents (entries (page q w))
     shown = sh .bases q ∙ base-at w q (h .0) (h .1)
 
+    -- the LM's key is found among the rows
     found-rows : lowestTo (skipped other did) old (entries (page q w)) ≡ some k
     found-rows = lowest-ents (skipped other did) old (entries (page q w)) ∙ ap (lowest (skipped other did) old) (sym shown) ∙ found
 
+    -- the entry is there
     there : has k old (entries (page q w)) ≡ true
     there = lowest-has (skipped other did) old k (entries (page q w)) found-rows
 
+    -- so the page is a base page
     is-base : isBase (page q w) ≡ true
     unfolding has
     is-base =
@@ -265,6 +198,7 @@ module _ (n : ℕ) (did : List Rec) (xs : List Step) (w : List ℕ) (l : ℕ →
           top = put-root q pg′ w (sh .sound) small (ch .whole) (h .0);
         }
 
+    -- an LM that points elsewhere
     pub point-step : (new : ℕ) → Leafy new → Stepped n did (point q old new other) xs w (LM q old new k) (state l (upd b q (map (redirect k old new) (b q))))
     unfolding redirected change
     point-step new to =
@@ -279,6 +213,7 @@ module _ (n : ℕ) (did : List Rec) (xs : List Step) (w : List ℕ) (l : ℕ →
         (bytes-redirected n k old new pg pg′ made-so (bytes-page q w (sh .sound .bytes))) (ch .0) (ch .1)
         (redirect-ents k old new (entries pg) (omega (arith, to .1)) (g .long) ∙ ap (map (redirect k old new)) (sym shown))
 
+    -- an LM that removes
     pub remove-step : 2 ≤ length (b q) → Stepped n did (point q old 0 other) xs w (LM q old 0 k) (state l (upd b q (strip k old (b q))))
     unfolding removed change
     remove-step two =

@@ -20,20 +20,24 @@ use Rattle.tidy.proofs.Run.{Run, takes, brings, points, Always, Kept}
 use Rattle.tidy.proofs.Place.{none-points, all-zip, found, only, once, x-full, x-alone, rises, mem, first-key, same-key}
 use Rattle.tidy.proofs.Move.{map-all, map-id, redirect-hit, redirect-key, redirect-page, to-at}
 
+-- one function after the other
 map-map : (f g : Entry → Entry) (es : List Entry) → map f (map g es) ≡ map (λ e. f (g e)) es
 map-map f g [] = refl
 map-map f g (e ∷ es) = rw (map-map f g es)
 
+-- a list with an entry in the middle
 pub map-mid : (f : Entry → Entry) (xs : List Entry) (e : Entry) (ys : List Entry) → map f (xs ++ e ∷ ys) ≡ map f xs ++ f e ∷ map f ys
 map-mid f [] e ys = refl
 map-mid f (x ∷ xs) e ys = rw (map-mid f xs e ys)
 
+-- a property of the entries that a function gives
 all-mapped : (f : Entry → Entry) (P Q : Entry → Type 0) (es : List Entry) → ((e : Entry) → P e → Q (f e)) → All P es → All Q (map f es)
 all-mapped f P Q [] g a = tt
 all-mapped f P Q (e ∷ es) g a = (g e (a .0), all-mapped f P Q es g (a .1))
 
 -- ---- what a well-formed tree says of two entries x and y, in the base pages p and q
 
+-- their pages and keys differ, and no other entry points there
 pub record Places (base : ℕ → List Entry) (x y : Entry) (p q : ℕ) : Type 0 where
   pub pages : x .page ≢ y .page
   pub keys : x .key ≢ y .key
@@ -43,18 +47,23 @@ pub record Places (base : ℕ → List Entry) (x y : Entry) (p q : ℕ) : Type 0
 
 -- the two LM records of a swap exchange the two pages in every base page
 module _ (base : ℕ → List Entry) (x y : Entry) (p q : ℕ) (c : Places base x y p q) where
+  -- what the first LM does
   abbrev r₁ : Entry → Entry
   r₁ = redirect (y .key) (y .page) (x .page)
 
+  -- what the second LM does
   abbrev r₂ : Entry → Entry
   r₂ = redirect (x .key) (x .page) (y .page)
 
+  -- the base pages after the first LM
   abbrev base₁ : ℕ → List Entry
   base₁ = upd base q (map r₁ (base q))
 
+  -- and after the second
   abbrev base₂ : ℕ → List Entry
   base₂ = upd base₁ p (map r₂ (base₁ p))
 
+  -- the first LM in every base page
   base₁-at : (i : ℕ) → base₁ i ≡ map r₁ (base i)
   base₁-at i =
       ⊎-elim
@@ -73,6 +82,7 @@ module _ (base : ℕ → List Entry) (x y : Entry) (p q : ℕ) (c : Places base 
       ∙ sym (redirect-page (y .key) (y .page) (x .page) e d))
       (eq? (e .page) (y .page))
 
+  -- the second LM in every base page
   base₂-at : (i : ℕ) → base₂ i ≡ map r₂ (base₁ i)
   base₂-at i =
       ⊎-elim
@@ -84,6 +94,7 @@ module _ (base : ℕ → List Entry) (x y : Entry) (p q : ℕ) (c : Places base 
       ∙ ap (map r₂) (sym (base₁-at i))))
       (eq? i p)
 
+  -- the two LMs rename each entry
   both-lm : (e : Entry) → (e .page ≡ x .page → e .key ≡ x .key) × (e .page ≡ y .page → e .key ≡ y .key) → r₂ (r₁ e) ≡ to (exch (x .page) (y .page)) e
   both-lm e h =
       ⊎-elim
@@ -100,6 +111,7 @@ module _ (base : ℕ → List Entry) (x y : Entry) (p q : ℕ) (c : Places base 
       (eq? (e .page) (y .page)))
       (eq? (e .page) (x .page))
 
+  -- so they do in every base page
   exchanged : (i : ℕ) → base₂ i ≡ map (to (exch (x .page) (y .page))) (base i)
   exchanged i =
       base₂-at i
@@ -112,15 +124,19 @@ module _ (base : ℕ → List Entry) (x y : Entry) (p q : ℕ) (c : Places base 
 module _ (root : List Entry) (s : State) (t : Tree root s) (x y : Entry) (p q : ℕ) (xs ys us vs : List Entry)
     (x-in : s .base p ≡ xs ++ x ∷ ys) (y-in : s .base q ≡ us ++ y ∷ vs) (apart : x .page ≢ y .page)
     (short-x : length (s .leaf (x .page)) ≤ 15) (short-y : length (s .leaf (y .page)) ≤ 15) where
+  -- A's page
   abbrev a : ℕ
   a = x .page
 
+  -- B's page
   abbrev b : ℕ
   b = y .page
 
+  -- what stands on the leaf pages
   abbrev leaf : ℕ → List (List ℕ)
   leaf = s .leaf
 
+  -- the two entries
   c : Places (s .base) x y p q
   c =
       record {
@@ -131,9 +147,11 @@ module _ (root : List Entry) (s : State) (t : Tree root s) (x y : Entry) (p q : 
         only-y = only root s t y q us vs y-in;
       }
 
+  -- the base pages after the first LM
   abbrev m : ℕ → List Entry
   m = base₁ (s .base) x y p q c
 
+  -- what the first LM does
   abbrev r : Entry → Entry
   r = r₁ (s .base) x y p q c
 
@@ -168,24 +186,31 @@ module _ (root : List Entry) (s : State) (t : Tree root s) (x y : Entry) (p q : 
       (λ (d : p ≢ q). rw (ne-eqb p q d) (first-key root s t x p xs ys x-in))
       (eq? p q)
 
+  -- the pages differ
   ab : eqb a b ≡ false
   ab = ne-eqb a b apart
 
+  -- and the other way round
   ba : eqb b a ≡ false
   ba = ne-eqb b a (λ e. apart (sym e))
 
+  -- the leaves after both LOs
   abbrev l₂ : ℕ → List (List ℕ)
   l₂ = upd (upd leaf a []) b []
 
+  -- and after the first LI
   abbrev l₃ : ℕ → List (List ℕ)
   l₃ = upd l₂ a (l₂ a ++ leaf b)
 
+  -- what the first LI leaves in A
   in-a : l₂ a ++ leaf b ≡ leaf b
   in-a = rw (ab, eq-eqb a a refl)
 
+  -- what the second LI leaves in B
   in-b : l₃ b ++ leaf a ≡ leaf a
   in-b = rw (ba, eq-eqb b b refl)
 
+  -- the four steps exchange the two pages
   leaf-end : (i : ℕ) → upd l₃ b (l₃ b ++ leaf a) i ≡ leaf (exch a b i)
   leaf-end i =
       rw (in-b, in-a)
@@ -197,6 +222,7 @@ module _ (root : List Entry) (s : State) (t : Tree root s) (x y : Entry) (p q : 
       (eq? i b))
       (eq? i a))
 
+  -- the tree with the two pages exchanged
   abbrev end : State
   end = renaming (exch a b) (exch-twice a b) s
 

@@ -22,7 +22,7 @@ use Rattle.unit.specs.Choice.{lowestEmpty, compactUnit, place, moveOf, swapOf, 
 use Rattle.unit.specs.Choice as Choice
 use Rattle.unit.proofs.Places.{Leafy, Basic}
 use Rattle.tidy.specs.Tidy.{Tidy, Keeps, CompactKeeps, OrderKeeps}
-use Rattle.tidy.proofs.Model.{Entry, pointers, full, weight, State, Tree, All}
+use Rattle.tidy.proofs.Model.{Entry, pointers, full, State, Tree, level, All}
 use Rattle.tidy.proofs.Trail.{pointers-append}
 use Rattle.tidy.proofs.Run.{Kept}
 use Rattle.tidy.proofs.Place.{all-front, all-back, part-of, p-in}
@@ -41,16 +41,19 @@ use Rattle.tidy.proofs.Known.{sound, tree, root-basic, base-leafy, leaf
 
 -- ---- the plans of the begin records
 
+-- a compact
 plan-compact : (u fill b : ℕ) (leaves : List ℕ) (d : ℕ) → plan (compactBegin u fill b leaves d) ≡ compactPlan b d leaves ++ (close u ∷ [])
 unfolding plan
 plan-compact u fill b leaves d = ap (λ (l : List Step). l ++ (close u ∷ [])) (pick-true (eqb 1 1) _ _ (eq-eqb 1 1 refl))
 
+-- a move
 plan-move : (u b a d : ℕ) → plan (moveBegin u b a d) ≡ movePlan b a d ++ (close u ∷ [])
 unfolding plan
 plan-move u b a d =
     ap (λ (l : List Step). l ++ (close u ∷ []))
     (pick-false (eqb 3 1) _ _ (ne-eqb 3 1 (λ z. omega arith)) ∙ pick-false (eqb 3 2) _ _ (ne-eqb 3 2 (λ z. omega arith)))
 
+-- a swap
 plan-swap : (u p q a b : ℕ) → plan (swapBegin u p q a b) ≡ swapPlan p q a b ++ (close u ∷ [])
 unfolding plan
 plan-swap u p q a b =
@@ -63,97 +66,114 @@ plan-swap u p q a b =
     read = rw (bases-read p q .0, bases-read p q .1)
 
 module _ (w : List ℕ) (tidy : Tidy w) where
+  -- the tree that the pages show
   abbrev s : State
   s = stateOf w
 
+  -- the root's entries
   abbrev root : List Entry
   root = rootOf w
 
   -- ---- compact
 
-  -- x and ds stand one after the other in the base page of the root entry e, within the fill
-  module _ (n u fill : ℕ) (r₁ : List Entry) (e : Entry) (r₂ xs : List Entry) (x : Entry) (ds ys : List Entry) (roots : root ≡ r₁ ++ e ∷ r₂)
-      (here : s .base (e .page) ≡ xs ++ x ∷ (ds ++ ys)) (hu : u ≤ most4) (f1 : 1 ≤ fill) (f15 : fill ≤ 15) (l1 : 1 ≤ length ds) (l7 : length ds ≤ 7)
-      (fits : weight (s .leaf) (x ∷ ds) ≤ 15) where
-    basic : Basic (e .page)
-    basic = all-back (λ r. Basic (r .page)) r₁ (e ∷ r₂) (subst (All (λ r. Basic (r .page))) roots (root-basic w tidy)) .0
+  -- the group c of a begin record
+  module _ (n u : ℕ) (g : Begin) (hu : u ≤ most4) (c : Grouped w u g) where
+    -- the base page
+    abbrev b : ℕ
+    b = c .top .page
 
+    -- the entry of C
+    abbrev x : Entry
+    x = c .entry
+
+    -- those that join it
+    abbrev ds : List Entry
+    ds = c .with
+
+    -- the begin record
+    abbrev begun : ℕ → Begin
+    begun d = compactBegin u (c .fill) b (pagesOf (x ∷ ds)) d
+
+    -- the base page keeps to its region
+    basic : Basic b
+    basic =
+        all-back (λ r. Basic (r .page)) (c .left) (c .top ∷ c .right) (subst (All (λ r. Basic (r .page))) (c .roots) (root-basic w tidy)) .0
+
+    -- so do the listed leaves
     leafy : All (λ r. Leafy (r .page)) (x ∷ ds)
     leafy =
-        let a = all-back (λ r. Leafy (r .page)) xs (x ∷ (ds ++ ys)) (subst (All (λ r. Leafy (r .page))) here (base-leafy w tidy (e .page) basic)) in
-        (a .0, all-front (λ r. Leafy (r .page)) ds ys (a .1))
+        let a = all-back (λ r. Leafy (r .page)) (c .before) (x ∷ (ds ++ c .rest)) (subst (All (λ r. Leafy (r .page))) (c .here) (base-leafy w tidy b basic)) in
+        (a .0, all-front (λ r. Leafy (r .page)) ds (c .rest) (a .1))
 
-    once : (p : ℕ) → pointers p (x ∷ ds) ≤ 1
-    once p =
+    -- an entry of the group is one of all entries
+    counted : (p : ℕ) → pointers p (x ∷ ds) ≤ pointers p (level root s)
+    counted p =
         omega (
           arith,
-          pointed-once w tidy p,
-          part-of (s .base) p root (e .page) (p-in root s (tree w tidy) x (e .page) xs (ds ++ ys) here),
-          ap (pointers p) here ∙ pointers-append p xs (x ∷ (ds ++ ys)),
-          pointers-append p ds ys,
+          part-of (s .base) p root b (p-in root s (tree w tidy) x b (c .before) (ds ++ c .rest) (c .here)),
+          ap (pointers p) (c .here) ∙ pointers-append p (c .before) (x ∷ (ds ++ c .rest)),
+          pointers-append p ds (c .rest),
         )
 
-    tree-here : Tree (r₁ ++ e ∷ r₂) s
-    tree-here = subst (λ (r : List Entry). Tree r s) roots (tree w tidy)
+    -- the listed leaves differ
+    once : (p : ℕ) → pointers p (x ∷ ds) ≤ 1
+    once p = omega (arith, pointed-once w tidy p, counted p)
 
-    kept-back : (todo : List Step) → Kept (r₁ ++ e ∷ r₂) todo s → Kept root todo s
-    kept-back todo k = subst (λ (r : List Entry). Kept r todo s) (sym roots) k
+    -- the tree, with the root's entries taken apart
+    tree-here : Tree (c .left ++ c .top ∷ c .right) s
+    tree-here = subst (λ (r : List Entry). Tree r s) (c .roots) (tree w tidy)
 
-    in-place : n + length (plan (compactBegin u fill (e .page) (pagesOf (x ∷ ds)) (x .page))) ≤ 4294967296
-        → Keeps n (compactBegin u fill (e .page) (pagesOf (x ∷ ds)) (x .page)) w
+    -- and put together again
+    kept-back : (todo : List Step) → Kept (c .left ++ c .top ∷ c .right) todo s → Kept root todo s
+    kept-back todo k = subst (λ (r : List Entry). Kept r todo s) (sym (c .roots)) k
+
+    -- the unit in place
+    in-place : n + length (plan (begun (x .page))) ≤ 4294967296 → Keeps n (begun (x .page)) w
     in-place few =
-        let q = plan-compact u fill (e .page) (pagesOf (x ∷ ds)) (x .page) in
-        finish w tidy n (compactBegin u fill (e .page) (pagesOf (x ∷ ds)) (x .page))
-        (compact-ok u fill (e .page) x ds (x .page) hu f1 f15 basic leafy once l1 l7 (leafy .0) (inl refl))
-        (rw q (apart-compact (e .page) u x ds once)) few
-        (rw q (kept-back _ (compact r₁ e r₂ xs x ds ys s tree-here here u fits)))
+        let q = plan-compact u (c .fill) b (pagesOf (x ∷ ds)) (x .page) in
+        finish w tidy n (begun (x .page))
+        (compact-ok u (c .fill) b x ds (x .page) hu (c .fill-low) (c .fill-high) basic leafy once (c .some-join) (c .few-join) (leafy .0) (inl refl))
+        (rw q (apart-compact b u x ds once)) few
+        (rw q (kept-back _ (compact (c .left) (c .top) (c .right) (c .before) x ds (c .rest) s tree-here (c .here) u (c .fits))))
 
-    new-place : (d : ℕ) → Leafy d → x .page ≢ d → leafOf w d ≡ [] → n + length (plan (compactBegin u fill (e .page) (pagesOf (x ∷ ds)) d)) ≤ 4294967296
-        → Keeps n (compactBegin u fill (e .page) (pagesOf (x ∷ ds)) d) w
+    -- the unit to a new place
+    new-place : (d : ℕ) → Leafy d → x .page ≢ d → leafOf w d ≡ [] → n + length (plan (begun d)) ≤ 4294967296 → Keeps n (begun d) w
     new-place d hd apart clear few =
-        let q = plan-compact u fill (e .page) (pagesOf (x ∷ ds)) d in
-        let zero-to : pointers d (x ∷ ds) ≡ 0 =
-        omega (
-          arith,
-          tree w tidy .lower .pointed d,
-          ap full clear,
-          part-of (s .base) d root (e .page) (p-in root s (tree w tidy) x (e .page) xs (ds ++ ys) here),
-          ap (pointers d) here ∙ pointers-append d xs (x ∷ (ds ++ ys)),
-          pointers-append d ds ys,
-        ) in
-        finish w tidy n (compactBegin u fill (e .page) (pagesOf (x ∷ ds)) d)
-        (compact-ok u fill (e .page) x ds d hu f1 f15 basic leafy once l1 l7 hd (inr (listed-none d (x ∷ ds) zero-to)))
-        (rw q (apart-new (e .page) u x ds d apart once (omega arith))) few
-        (rw q (kept-back _ (compact-new r₁ e r₂ xs x ds ys s tree-here here d clear u apart (omega (arith, hd .0)) fits)))
+        let q = plan-compact u (c .fill) b (pagesOf (x ∷ ds)) d in
+        let zero-to : pointers d (x ∷ ds) ≡ 0 = omega (arith, counted d, tree w tidy .lower .pointed d, ap full clear) in
+        finish w tidy n (begun d)
+        (compact-ok u (c .fill) b x ds d hu (c .fill-low) (c .fill-high) basic leafy once (c .some-join) (c .few-join) hd
+        (inr (listed-none d (x ∷ ds) zero-to)))
+        (rw q (apart-new b u x ds d apart once (omega arith))) few
+        (rw q
+        (kept-back _
+        (compact-new (c .left) (c .top) (c .right) (c .before) x ds (c .rest) s tree-here (c .here) d clear u apart (omega (arith, hd .0)) (c .fits))))
+
+    -- the destination that begin finds
+    abbrev dest : ℕ
+    dest = lowestEmpty (c .low) (x .page) 0 (pages w)
+
+    -- C's own page, or an empty one
+    either-place : n + length (plan (begun dest)) ≤ 4294967296
+        → (dest ≡ x .page)
+        ⊎ ((i : ℕ) × (i < length (pages w)) × (dest ≡ 0 + i) × (c .low < 0 + i) × (0 + i < x .page) × (isEmpty (getD (pages w) i []) ≡ true))
+        → Keeps n (begun dest) w
+    either-place few (inl e) = rw e (in-place (rw e at few))
+    either-place few (inr d) =
+        let i : ℕ = d .0 in
+        let e : dest ≡ i = d .2 ∙ (let z : 0 + i ≡ i = omega arith in z) in
+        let lo : 8 ≤ i = omega (arith, d .3, c .low-enough) in
+        let hi : i ≤ 63 = omega (arith, d .4, leafy .0 .1) in
+        let blank : isEmpty (page i w) ≡ true = rw (getD-pages i w (omega arith)) at (d .5) in
+        rw e (new-place i (lo, hi) (λ q. omega (arith, d .4)) (empty-leaf w tidy i lo blank) (rw e at few))
 
   -- every unit that begin compact chooses
   by-compact : (n u fill : ℕ) (lk : Option ℕ) (g : Begin) → u ≤ most4 → fill ≤ 15 → compactUnit u fill lk (pages w) ≡ some g
       → n + length (plan g) ≤ 4294967296 → Keeps n g w
   by-compact n u fill lk g hu hf chosen few =
       let c = grouped w tidy u fill lk g hf chosen in
-      subst (λ (h : Begin). Keeps n h w) (sym (c .is)) (by-dest c (subst (λ (h : Begin). n + length (plan h) ≤ 4294967296) (c .is) few) (lowest-empty (c .low) (c .entry .page) 0 (pages w)))
-    where
-      by-dest : (c : Grouped w u g)
-          → n + length (plan (compactBegin u (c .fill) (c .top .page) (pagesOf (c .entry ∷ c .with)) (lowestEmpty (c .low) (c .entry .page) 0 (pages w)))) ≤ 4294967296
-          → (lowestEmpty (c .low) (c .entry .page) 0 (pages w) ≡ c .entry .page)
-          ⊎ ((i : ℕ) × (i < length (pages w)) × (lowestEmpty (c .low) (c .entry .page) 0 (pages w) ≡ 0 + i) × (c .low < 0 + i) × (0 + i < c .entry .page)
-          × (isEmpty (getD (pages w) i []) ≡ true))
-          → Keeps n (compactBegin u (c .fill) (c .top .page) (pagesOf (c .entry ∷ c .with)) (lowestEmpty (c .low) (c .entry .page) 0 (pages w))) w
-      by-dest c short (inl e) =
-          rw e
-          (in-place n u (c .fill) (c .left) (c .top) (c .right) (c .before) (c .entry) (c .with) (c .rest) (c .roots) (c .here) hu (c .fill-low) (c .fill-high)
-          (c .some-join) (c .few-join) (c .fits) (rw e at short))
-      by-dest c short (inr d) =
-          let leafy-c = leafy n u (c .fill) (c .left) (c .top) (c .right) (c .before) (c .entry) (c .with) (c .rest) (c .roots) (c .here) hu (c .fill-low) (c .fill-high)
-          (c .some-join) (c .few-join) (c .fits) in
-          let i : ℕ = d .0 in
-          let e : lowestEmpty (c .low) (c .entry .page) 0 (pages w) ≡ i = d .2 ∙ (let z : 0 + i ≡ i = omega arith in z) in
-          let lo : 8 ≤ i = omega (arith, d .3, c .low-enough) in
-          let hi : i ≤ 63 = omega (arith, d .4, leafy-c .0 .1) in
-          let blank : isEmpty (page i w) ≡ true = rw (getD-pages i w (omega arith)) at (d .5) in
-          rw e
-          (new-place n u (c .fill) (c .left) (c .top) (c .right) (c .before) (c .entry) (c .with) (c .rest) (c .roots) (c .here) hu (c .fill-low) (c .fill-high)
-          (c .some-join) (c .few-join) (c .fits) i (lo, hi) (λ q. omega (arith, d .4)) (empty-leaf w tidy i lo blank) (rw e at short))
+      let few′ = subst (λ (h : Begin). n + length (plan h) ≤ 4294967296) (c .is) few in
+      subst (λ (h : Begin). Keeps n h w) (sym (c .is)) (either-place n u g hu c few′ (lowest-empty (c .low) (c .entry .page) 0 (pages w)))
 
   -- ---- order
 
@@ -161,11 +181,13 @@ module _ (w : List ℕ) (tidy : Tidy w) where
   spot-basic : (c : Leaf) (next : List Leaf) (p : Spot s root c next) → Basic (p .top .page)
   spot-basic c next p = all-back (λ r. Basic (r .page)) (p .left) (p .top ∷ p .right) (subst (All (λ r. Basic (r .page))) (p .roots) (root-basic w tidy)) .0
 
+  -- the leaf's own page
   spot-leafy : (c : Leaf) (next : List Leaf) (p : Spot s root c next) → Leafy (p .entry .page)
   spot-leafy c next p =
       all-back (λ r. Leafy (r .page)) (p .before) (p .entry ∷ p .after)
       (subst (All (λ r. Leafy (r .page))) (p .entries) (base-leafy w tidy (p .top .page) (spot-basic c next p))) .0
 
+  -- a leaf moved to an empty page
   moves : (n u : ℕ) (c : Leaf) (next : List Leaf) (p : Spot s root c next) (d : ℕ) → u ≤ most4 → Leafy d → p .entry .page ≢ d → isEmpty (page d w) ≡ true
       → n + length (plan (moveBegin u (p .top .page) (p .entry .page) d)) ≤ 4294967296 → Keeps n (moveBegin u (p .top .page) (p .entry .page) d) w
   moves n u c next p d hu hd apart blank few =
@@ -202,18 +224,22 @@ module _ (w : List ℕ) (tidy : Tidy w) where
       stands s d (leavesAll s root) (omega (arith, standing-all s d root, tree w tidy .lower .pointed d))
 
   module _ (n u : ℕ) (g : Begin) (hu : u ≤ most4) (few : n + length (plan g) ≤ 4294967296) (o : Ordered u (pages w) (leavesOf (pages w)) 0 (leavesOf (pages w)) g) where
+    -- the page where the leaf belongs
     abbrev wanted : ℕ
     wanted = place (0 + length (o .before))
 
+    -- where the leaf stands
     p : Spot s root (o .leaf) (o .next)
     p = spot s root (o .before) (o .leaf) (o .next) (sym (leaves-of w (sound w tidy)) ∙ o .all-leaves)
 
+    -- there is such a page
     wanted-leafy : Leafy wanted
     unfolding place
     wanted-leafy =
         let k = ap length (sym (leaves-of w (sound w tidy)) ∙ o .all-leaves) ∙ length-append (o .before) (o .leaf ∷ o .next) in
         (omega arith, omega (arith, k, length-leaves s root, few-leaves w tidy))
 
+    -- the leaf stands elsewhere
     apart : p .entry .page ≢ wanted
     apart q = o .misplaced (ap (λ (l : Leaf). l .at) (p .leaf) ∙ q)
 
@@ -244,6 +270,7 @@ module _ (w : List ℕ) (tidy : Tidy w) where
         subst (λ (h : Begin). Keeps n h w) (sym is)
         (swaps n u (a .leaf) (o .leaf) (a .after) (o .next) q p hu (λ z. apart (sym z ∙ on)) (subst (λ (h : Begin). n + length (plan h) ≤ 4294967296) is few))
 
+    -- either way
     in-order : Keeps n g w
     in-order = by-test (isEmpty (page wanted w)) refl
       where
@@ -258,8 +285,10 @@ module _ (w : List ℕ) (tidy : Tidy w) where
 
 -- ---- the theorem
 
+-- for begin compact
 pub compact-keeps : CompactKeeps
 compact-keeps w tidy n unit fill lk g hu hf chosen few = by-compact w tidy n unit fill lk g hu hf chosen few
 
+-- for begin order
 pub order-keeps : OrderKeeps
 order-keeps w tidy n unit g hu chosen few = by-order w tidy n unit g hu chosen few

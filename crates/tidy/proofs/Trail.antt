@@ -31,11 +31,12 @@ pub drop-many : (lo : ℕ) (xs ys zs : List ℕ) → Ascends lo (xs ++ (ys ++ zs
 drop-many lo xs [] zs a = a
 drop-many lo xs (y ∷ ys) zs a = drop-many lo xs ys zs (drop-one lo xs y (ys ++ zs) a)
 
--- the back and the front
+-- the back
 pub back : (lo : ℕ) (xs ys : List ℕ) → Ascends lo (xs ++ ys) → Ascends lo ys
 back lo [] ys a = a
 back lo (x ∷ xs) ys a = lower ys (omega arith) (back (suc x) xs ys (a .1))
 
+-- the front
 pub front : (lo : ℕ) (xs ys : List ℕ) → Ascends lo (xs ++ ys) → Ascends lo xs
 front lo [] ys a = tt
 front lo (x ∷ xs) ys a = (a .0, front (suc x) xs ys (a .1))
@@ -47,6 +48,7 @@ bound lo (x ∷ xs) y zs a = omega (arith, a .0, bound (suc x) xs y zs (a .1))
 
 -- ---- entries that point
 
+-- of two lists
 pub pointers-append : (p : ℕ) (xs ys : List Entry) → pointers p (xs ++ ys) ≡ pointers p xs + pointers p ys
 pointers-append p [] ys = omega arith
 pointers-append p (e ∷ xs) ys = omega (arith, pointers-append p xs ys)
@@ -61,14 +63,17 @@ miss true n h = absurd (omega arith)
 miss false n h = refl
 
 module _ {Item : Type 0} where
+  -- a page counts once
   pub full≤ : (xs : List Item) → full xs ≤ 1
   full≤ [] = omega arith
   full≤ (x ∷ xs) = omega arith
 
+  -- more behind
   pub full-append : (xs ys : List Item) → 1 ≤ full xs → full (xs ++ ys) ≡ 1
   full-append [] ys h = absurd (omega arith)
   full-append (x ∷ xs) ys h = refl
 
+  -- a list with something in the middle
   pub full-mid : (xs : List Item) (x : Item) (ys : List Item) → 1 ≤ full (xs ++ x ∷ ys)
   full-mid [] x ys = omega arith
   full-mid (e ∷ xs) x ys = omega arith
@@ -78,6 +83,7 @@ module _ {Item : Type 0} where
   nothing [] h = refl
   nothing (e ∷ es) h = absurd (omega arith)
 
+  -- below two lists of entries
   pub beneath-append : (f : ℕ → List Item) (xs ys : List Entry) → beneath f (xs ++ ys) ≡ beneath f xs ++ beneath f ys
   beneath-append f [] ys = refl
   beneath-append f (e ∷ xs) ys = rw (beneath-append f xs ys, append-assoc)
@@ -102,6 +108,7 @@ module _ {Item : Type 0} (key : Item → ℕ) where
       (omega (arith, a .0), lower {lo = suc (2 * suc (key i))} {lo′ = suc (2 * key i + 1)} (marks key is) (omega arith) (double (suc (key i)) is (a .1)))
 
   module _ (f : ℕ → List Item) where
+    -- of two lists of entries
     pub trail-append : (xs ys : List Entry) → trail key f (xs ++ ys) ≡ trail key f xs ++ trail key f ys
     trail-append [] ys = refl
     trail-append (e ∷ xs) ys = rw (trail-append xs ys, append-assoc)

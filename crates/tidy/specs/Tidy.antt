@@ -41,8 +41,7 @@ InForm (some p) w = formed p (page p w) ≡ true
 pub data Carried : (n : ℕ) (did : List Rec) (todo : List Step) (w w′ : List ℕ) (rs : List Rec) → Type 0 where
   done : {n : ℕ} {did : List Rec} {w : List ℕ} → Carried n did [] w w []
   step : {n : ℕ} {did : List Rec} {x : Step} {xs : List Step} {w v w′ : List ℕ} {r : Rec} {rs : List Rec} → InForm (targetOf x) w
-      → nextRec x did (pageOf (targetOf x) w) ≡ some r → apply n r w ≡ some v → size r ≡ stepSize w x → room v xs ≡ room w xs
-      → Sound v
+      → nextRec x did (pageOf (targetOf x) w) ≡ some r → apply n r w ≡ some v → size r ≡ stepSize w x → room v xs ≡ room w xs → Sound v
       → Carried (n + 1) (r ∷ did) xs v w′ rs → Carried n did (x ∷ xs) w w′ (r ∷ rs)
 
 -- a unit that can be carried out to its end, from its begin record on, and keeps the tree and its records
@@ -61,6 +60,7 @@ CompactKeeps =
     (w : List ℕ) → Tidy w → (n unit fill : ℕ) (lk : Option ℕ) (g : Begin) → unit ≤ most4 → fill ≤ 15 → compactUnit unit fill lk (pages w) ≡ some g
     → n + length (plan g) ≤ most4 + 1 → Keeps n g w
 
+-- the same for begin order
 abbrev pub OrderKeeps : Type 0
 OrderKeeps =
     (w : List ℕ) → Tidy w → (n unit : ℕ) (g : Begin) → unit ≤ most4 → orderUnit unit (pages w) ≡ some g → n + length (plan g) ≤ most4 + 1 → Keeps n g w

@@ -34,6 +34,7 @@ use Rattle.log.proofs.Append.{atEnd-grown, good-grown}
 use Rattle.unit.specs.Next.{apply, repeat, repeatAll, targetOf, pageOf, keyBefore, isOther, lowestTo, skipped, nextRec, stepSize, room}
 use Rattle.unit.proofs.Places.{end-keeps}
 use Rattle.unit.proofs.Changed.{apply-bytes}
+use Rattle.tidy.proofs.Next.{next-does}
 use Rattle.store.specs.Calls.{Went, stopped, went, andThen, didOf, todoOf, append, logLength}
 use Rattle.store.specs.Calls as Calls
 use Rattle.replay.specs.Store.{run}
@@ -47,42 +48,10 @@ use Rattle.promise.proofs.Standing.{Standing, fits-standing}
 pub none-not : {A : Type 0} (a : A) → none ≡ some a → ⊥
 none-not a e = let z : _≡_ {A = ℕ} 0 1 = cc in omega arith
 
--- the key of an entry of bytes fits
-pick-small : (t : Bool) (x : List ℕ) (k : ℕ) (o : Option ℕ) → Bytes x → (o ≡ some k → k ≤ most4) → pick t (some (keyOf x)) o ≡ some k → k ≤ most4
-unfolding pick keyOf
-pick-small true x k o b rest q = omega (arith, le4-small x 2 b, Option·some-injective (keyOf x) k q)
-pick-small false x k o b rest q = rest q
-
-lowest-small : (skip : Option ℕ) (p k : ℕ) (es : List (List ℕ)) → Each Bytes es → lowestTo skip p es ≡ some k → k ≤ most4
-unfolding lowestTo
-lowest-small skip p k [] b e = absurd (none-not k e)
-lowest-small skip p k (x ∷ es) (Each.cons b bs) e =
-    pick-small (both (eqb (toPage x) p) (isOther skip (keyOf x))) x k (lowestTo skip p es) b (λ q. lowest-small skip p k es bs q) e
-
--- a leaf's records are what an LO may carry
-leaf-moved : (pg : List ℕ) → Bytes pg → isLeaf pg ≡ true → Moved (records pg)
-unfolding isLeaf
-leaf-moved pg b e =
-    let f : Fill leaf (records pg) = fill-of leaf pg fit-leaf e in
-    record { some-rows = f .enough; few-rows = f .room; long = f .long; bytes = bytes-rows 16 pg b; order = f .order }
-
 page-bytes : (t : Option ℕ) (w : List ℕ) → Bytes w → Bytes (pageOf t w)
 unfolding pageOf
 page-bytes none w b = bytes-nil
 page-bytes (some p) w b = bytes-page p w b
-
--- the record of a step does it
-pub next-does : (x : Step) (did : List Rec) (pg : List ℕ) (r : Rec) → Bytes pg → nextRec x did pg ≡ some r → Does did x r
-unfolding nextRec
-next-does (takeOut org dest) did pg r b e =
-    let w = when-some (isLeaf pg) (LO org dest (records pg)) r e in
-    rw (← (w .1)) (does-out (leaf-moved pg b (w .0)))
-next-does (bringIn org dest back) did pg r b e = rw (← (Option·some-injective _ r e)) (does-in refl)
-next-does (point base old new other) did pg r b e =
-    let w = bind-some (lowestTo (skipped other did) old (entries pg)) (λ k. some (LM base old new k)) r e in
-    rw (← (Option·some-injective _ r (w .gives)))
-    (does-point (lowest-small (skipped other did) old (w .from) (entries pg) (bytes-rows 8 pg b) (w .was)))
-next-does (close unit) did pg r b e = rw (← (Option·some-injective _ r e)) does-close
 
 -- what `nextOf` has tested
 pub record Next (x : Step) (xs : List Step) (s : State) (w : List ℕ) (r : Rec) : Type 0 where

@@ -1,6 +1,6 @@
 -- Bytes in a list: a part, a run written over it, zeros, and document 01's "Numbers are little-endian".
 -- A list's elements are numbers; a law that needs them below 256 says so (`Bytes`). Assumes nothing.
-use Prim.Native.Nat.{ℕ, zero, suc, _+_, _*_, _/_, _%_, _<_}
+use Prim.Native.Nat.{ℕ, _+_, _*_, _/_, _%_, _<_}
 use mathlib.Core.Bool.{Bool, true, false}
 use mathlib.Core.List.{List, [], _∷_, _++_}
 use lib.ListN.{length, take, drop, getD, replicate}

@@ -2,16 +2,16 @@
 -- after are zero." A record is read by filling the step that must come next with the bytes that the step leaves free (LO's records,
 -- LM's key) and comparing all of the record's bytes with those that would have been written: so every mark, length, number, page and zero
 -- field is tested at once. Assumes nothing.
-use Prim.Native.Nat.{ℕ, zero, suc, _+_, _-_, _*_}
+use Prim.Native.Nat.{ℕ, zero, suc, _+_, _-_}
 use mathlib.Core.Bool.{Bool, true, false, not}
 use mathlib.Core.List.{List, [], _∷_, _++_}
 use mathlib.Core.Option.{Option, some, none}
 use lib.ListN.{length, drop, getD}
 use lib.Dec.{eqb, leb}
 use Rattle.field.specs.Test.{both, all, pick, given, when, bind}
-use Rattle.field.specs.Bytes.{zeroes, allZero, starts, le2, le4, most4}
+use Rattle.field.specs.Bytes.{allZero, starts, le2, le4, most4}
 use Rattle.page.specs.Page.{rowsOf, keyOf, ascendRecords}
-use Rattle.log.specs.Record.{Kind, check, lengthOf, Check, Begin, Rec, LB, LO, LI, LM, LE, carried, size, encodeCheck, encode, encodeAll}
+use Rattle.log.specs.Record.{check, lengthOf, Check, Begin, Rec, LB, LO, LI, LM, LE, carried, size, encodeCheck, encode, encodeAll}
 use Rattle.log.specs.Plan.{Step, takeOut, bringIn, point, close, plan}
 
 -- ---- what is known after a record

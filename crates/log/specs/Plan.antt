@@ -1,8 +1,8 @@
 -- Document 01, "Steps": the steps that a begin record gives, in order. A step is a record but for what only the pages know: an LO's
 -- records and an LM's key. A log's form, the room of a unit and what recovery must still append are all read off this list.
 -- Assumes nothing.
-use Prim.Native.Nat.{ℕ, zero, suc}
-use mathlib.Core.Bool.{Bool, true, false}
+use Prim.Native.Nat.{ℕ}
+use mathlib.Core.Bool.{Bool, false}
 use mathlib.Core.List.{List, [], _∷_, _++_}
 use lib.ListN.{getD}
 use lib.Dec.{eqb}

@@ -1,10 +1,9 @@
 -- Document 01, "Log form": the record kinds and the bytes of each. A record's log number is no part of it: it is the record's place in
 -- the log, and `encode` is told it. Assumes nothing.
 use Prim.Native.Nat.{ℕ, zero, suc, _+_, _-_, _*_}
-use mathlib.Core.Bool.{Bool, true, false}
 use mathlib.Core.List.{List, [], _∷_, _++_}
 use mathlib.Core.Option.{Option, some, none}
-use lib.ListN.{length, drop, getD}
+use lib.ListN.{length}
 use lib.Dec.{eqb}
 use Rattle.field.specs.Test.{pick}
 use Rattle.field.specs.Bytes.{zeroes, bytes2, bytes4}

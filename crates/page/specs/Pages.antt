@@ -1,6 +1,6 @@
 -- 64 pages side by side in 16,384 bytes. Assumes nothing.
 use Prim.Native.Nat.{ℕ, _+_, _*_}
-use mathlib.Core.Bool.{Bool, true, false}
+use mathlib.Core.Bool.{Bool, true}
 use mathlib.Core.List.{List, [], _∷_}
 use Rattle.field.specs.Test.{both}
 use Rattle.field.specs.Bytes.{part, put}

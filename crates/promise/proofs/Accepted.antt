@@ -1,43 +1,40 @@
 -- Where the generic half says that a begin or a step goes on, the call is accepted and leaves just that; so an uncut run in the generic
 -- sense is a run of calls. Assumes nothing but the unit laws, which are handed in.
-use Prim.Native.Nat.{ℕ, zero, suc, _+_, _-_, _≤_, _<_}
+use Prim.Native.Nat.{ℕ, _+_, _-_, _≤_}
 use native.Mathlib.Omega.{arith}
 use mathlib.Core.Path.{_≡_, refl, sym, ap, ap₂, _∙_, subst, subst₂}
-use mathlib.Core.Logic.{_⊎_, inl, inr, ⊎-elim}
-use mathlib.Core.Bool.{Bool, true, false, not}
+use mathlib.Core.Logic.{_⊎_, ⊎-elim}
+use mathlib.Core.Bool.{true, not}
 use mathlib.Core.List.{List, [], _∷_, _++_}
 use mathlib.Core.Option.{Option, some, none, Option·some-injective}
 use lib.ListN.{length, take}
-use lib.Dec.{leb}
 use borrow.Author.Tests.{le-leb}
-use Rattle.field.specs.Test.{both, need, given, there}
+use Rattle.field.specs.Test.{there}
 use Rattle.field.specs.Bytes.{put, most4}
 use Rattle.field.proofs.Test.{both-intro, need-true, given-some}
 use Rattle.page.specs.Pages.{pages}
 use Rattle.page.proofs.Pages.{formed-pages}
 use Rattle.log.specs.Record.{Check, Begin, Rec, LB, size, encode}
-use Rattle.log.specs.Plan.{Step, plan}
-use Rattle.log.specs.Log.{Open, State, Log, atEnd}
-use Rattle.log.proofs.State.{sizes, number-atEnd}
+use Rattle.log.specs.Plan.{plan}
+use Rattle.log.specs.Log.{Open}
+use Rattle.log.proofs.State.{sizes}
 use Rattle.log.proofs.Valid.{Good}
-use Rattle.log.proofs.Sound.{Sound, Waits, Awaits, waits-open, sound-atEnd}
+use Rattle.log.proofs.Sound.{Waits, waits-open, sound-atEnd}
 use Rattle.unit.specs.Choice.{compactUnit, orderUnit}
-use Rattle.unit.specs.Next.{apply, targetOf, room}
-use Rattle.unit.proofs.Places.{StepKeeps, OpenKeeps, end-keeps}
-use Rattle.store.specs.Calls.{Lent, lent, Left, left, refused, Went, stopped, went, stepWith, stepped, append, todoOf, begun, beginWith, formedAt, logLength}
+use Rattle.unit.specs.Next.{apply, room}
+use Rattle.store.specs.Calls.{Lent, lent, Left, left, refused, todoOf, begun, beginWith, logLength}
 use Rattle.store.specs.Calls as Calls
-use Rattle.replay.specs.Store.{Settled, Reached}
+use Rattle.replay.specs.Store.{Settled}
 use Rattle.replay.specs.Store as Replay
 use Rattle.replay.specs.Laws.{UnitLaws}
 use Rattle.replay.proofs.Theorem.{work-settled, uncut-reached}
-use Rattle.promise.specs.Parts.{logOf, stateOf, store, asked, Chooses, Begins}
+use Rattle.promise.specs.Parts.{logOf, stateOf, store, asked, Begins}
 use Rattle.promise.specs.Promise.{Uncut}
 use Rattle.promise.proofs.OnPages.{page-laws}
-use Rattle.promise.proofs.Image.{image, Stored, Numbered, put-image, at-grown}
-use Rattle.promise.proofs.Forward.{Opened, opened-at, Next, next-facts, next-at, apply-at, append-is}
+use Rattle.promise.proofs.Image.{image, put-image, at-grown}
 use Rattle.promise.proofs.Standing.{last-fits}
-use Rattle.promise.proofs.Live.{Live, image-bare, stored-of, stored, work-pages, two-sized, known-live, live-grown}
-use Rattle.promise.proofs.Called.{Some, ending-some, todo-of, step-with, formed-target, keeps-head, bare-at, nothing-forced, step-is, apply-begin}
+use Rattle.promise.proofs.Live.{Live, image-bare, stored, two-sized, known-live}
+use Rattle.promise.proofs.Called.{Some, ending-some, bare-at, nothing-forced, step-is, apply-begin}
 
 -- no steps to come: no unit is open
 pub open-none : {u : ℕ} (o : Option Open) → Waits u o → length (todoOf o) ≡ 0 → o ≡ none

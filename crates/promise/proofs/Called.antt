@@ -1,45 +1,43 @@
 -- Every call on a live state leaves a live state, whether it is accepted or refused. Assumes nothing but the unit laws, which are handed in.
-use Prim.Native.Nat.{ℕ, zero, suc, _+_, _-_, _≤_, _<_}
+use Prim.Native.Nat.{ℕ, suc, _+_, _-_, _≤_}
 use native.Mathlib.Omega.{arith}
 use mathlib.Core.Path.{_≡_, refl, sym, ap, _∙_, subst, subst₂}
-use mathlib.Core.Logic.{_⊎_, inl, inr}
+use mathlib.Core.Logic.{inl, inr}
 use mathlib.Core.Bool.{Bool, true, false, not, false≢true}
 use mathlib.Core.List.{List, [], _∷_, _++_}
-use mathlib.Core.Option.{Option, some, none, Option·some-injective}
+use mathlib.Core.Option.{Option, some, none}
 use lib.ListN.{length, take}
 use lib.Seq.{take-length}
-use lib.Dec.{eqb, leb, ltb}
+use lib.Dec.{leb}
 use borrow.Author.Tests.{leb-true, ltb-true}
-use Rattle.field.specs.Test.{both, pick, need, given, there}
-use Rattle.field.specs.Bytes.{put, same, most4}
-use Rattle.field.proofs.Test.{both-1, both-2, need-true, need-false, given-some, given-none}
+use Rattle.field.specs.Test.{need, given, there}
+use Rattle.field.specs.Bytes.{put, most4}
+use Rattle.field.proofs.Test.{both-1, both-2, need-true, given-some, given-none}
 use Rattle.field.proofs.Same.{same-eq}
-use Rattle.page.specs.Page.{number, formed}
-use Rattle.page.specs.Pages.{page, putPage, pages, allFormed}
-use Rattle.page.proofs.Pages.{formed-pages}
-use Rattle.log.specs.Record.{Check, Begin, Rec, LB, size, encode}
-use Rattle.log.specs.Plan.{Step, plan}
-use Rattle.log.specs.Log.{Open, State, Log, atEnd, lastForced}
+use Rattle.page.specs.Page.{number}
+use Rattle.page.specs.Pages.{page, pages}
+use Rattle.log.specs.Record.{Check, Begin, Rec, LB, encode}
+use Rattle.log.specs.Plan.{Step}
+use Rattle.log.specs.Log.{Open, State, lastForced}
 use Rattle.log.proofs.State.{sizes, at-atEnd, number-atEnd}
 use Rattle.log.proofs.Plan.{Ending}
 use Rattle.log.proofs.Valid.{Good}
-use Rattle.log.proofs.Sound.{Sound, Waits, Awaits, waits-open, sound-atEnd}
-use Rattle.tree.specs.Tree.{wellFormed}
+use Rattle.log.proofs.Sound.{Waits, Awaits, waits-open, sound-atEnd}
 use Rattle.tree.specs.Answer.{Found, missing, found}
-use Rattle.unit.specs.Choice.{compactUnit, orderUnit}
-use Rattle.unit.specs.Next.{target, change, changedAt, apply, targetOf, room}
-use Rattle.unit.proofs.Places.{Keeping, one-more, StepKeeps, Leafy, Basic, OpenKeeps, end-keeps}
-use Rattle.store.specs.Calls.{Lent, lent, Left, left, refused, known, twoSized, threeSized, logSized, newLog, logLength, Went, stopped, went, formedAt, stepWith, stepped, append, todoOf, begun, beginWith, checkpointed, answered}
+use Rattle.unit.specs.Choice.{orderUnit}
+use Rattle.unit.specs.Next.{target, changedAt, apply, targetOf}
+use Rattle.unit.proofs.Places.{Keeping, one-more, StepKeeps, OpenKeeps, end-keeps}
+use Rattle.store.specs.Calls.{Lent, lent, Left, left, refused, logLength, Went, stopped, formedAt, stepWith, stepped, append, todoOf, begun, beginWith, checkpointed, answered}
 use Rattle.store.specs.Calls as Calls
 use Rattle.replay.specs.Store.{Formed, Settled, Reached}
 use Rattle.replay.specs.Laws.{UnitLaws}
 use Rattle.replay.proofs.Theorem.{work-settled, step-accepted}
 use Rattle.promise.specs.Parts.{logOf, stateOf, store, asked, Chooses, Begins, Checks}
 use Rattle.promise.proofs.OnPages.{page-laws}
-use Rattle.promise.proofs.Image.{image, Stored, Numbered, put-image, at-grown, forced-image}
-use Rattle.promise.proofs.Forward.{Opened, Next, next-facts, next-at, apply-at, append-is}
+use Rattle.promise.proofs.Image.{image, put-image, at-grown, forced-image}
+use Rattle.promise.proofs.Forward.{Next, next-facts, next-at, apply-at, append-is}
 use Rattle.promise.proofs.Standing.{last-fits}
-use Rattle.promise.proofs.Live.{Live, live-room, image-bare, stored-of, stored, work-pages, log-sized, two-sized, three-sized, known-live, live-grown}
+use Rattle.promise.proofs.Live.{Live, live-room, image-bare, stored-of, stored, work-pages, two-sized, known-live, live-grown}
 
 -- a state that a call leaves is the one that it was lent
 pub live-same : {rs : List (List ℕ)} {d : Lent} (x : Left) → x .now ≡ d → Live rs d → Live rs (x .now)

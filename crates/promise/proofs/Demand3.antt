@@ -1,21 +1,18 @@
 -- Demand 3, with nothing left to hand in: the generic half (`replay`) with the store's page laws, the units that are carried out (`tidy`), and
 -- build's layout (`laid`). Assumes nothing.
 use Prim.Native.Nat.{ℕ, _+_, _≤_}
-use native.Mathlib.Omega.{arith}
-use mathlib.Core.Path.{_≡_, refl, sym, ap, _∙_, subst}
-use mathlib.Core.Logic.{_⊎_, inl, inr}
-use mathlib.Core.Bool.{Bool, true, false}
-use mathlib.Core.List.{List, [], _∷_}
-use mathlib.Core.Option.{Option, some, none}
+use mathlib.Core.Path.{subst}
+use mathlib.Core.Logic.{inl, inr}
+use mathlib.Core.Bool.{true}
+use mathlib.Core.List.{List}
 use lib.ListN.{length}
-use Rattle.field.specs.Bytes.{Bytes, most4}
-use Rattle.page.specs.Pages.{pages}
+use Rattle.field.specs.Bytes.{most4}
 use Rattle.log.specs.Record.{Begin}
 use Rattle.log.specs.Plan.{plan}
 use Rattle.log.specs.Log.{State}
 use Rattle.tidy.specs.Tidy.{Tidy, Keeps}
 use Rattle.tidy.proofs.Theorem.{compact-keeps, order-keeps}
-use Rattle.store.specs.Calls.{Lent, threeSized}
+use Rattle.store.specs.Calls.{Lent}
 use Rattle.store.specs.Calls as Calls
 use Rattle.replay.specs.Laws.{UnitLaws}
 use Rattle.promise.specs.Parts.{store, asked, Chooses}

@@ -1,7 +1,7 @@
 -- A contract of the form that every call has, "what is left is what the definition leaves", allows one result only. Assumes nothing.
 use mathlib.Core.Path.{_≡_, sym, ap, _∙_}
 use Rattle.store.specs.Calls.{Left}
-use Rattle.promise.specs.Promise.{Same, Fixes}
+use Rattle.promise.specs.Promise.{Fixes}
 
 pub fixes : (means : Left) → Fixes means
 fixes means x y a b =

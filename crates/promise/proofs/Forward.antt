@@ -1,41 +1,31 @@
 -- The next record of an open unit fits the log; and a step and recovery's finishing, on bytes, are what the generic half says of them.
 -- Assumes nothing.
-use Prim.Native.Nat.{ℕ, zero, suc, _+_, _-_, _≤_, _<_}
+use Prim.Native.Nat.{ℕ, suc, _+_, _-_, _≤_}
 use native.Mathlib.Omega.{arith}
 use mathlib.Core.Path.{_≡_, refl, sym, ap, _∙_, subst}
-use mathlib.Core.Logic.{_⊎_, inl, inr, ⊎-elim}
-use mathlib.Core.Bool.{Bool, true, false}
 use mathlib.Core.List.{List, [], _∷_, _++_}
 use mathlib.Core.Option.{Option, some, none, Option·some-injective}
 use mathlib.Core.Option as Option
-use lib.ListN.{length, drop}
-use lib.Dec.{eqb, leb}
+use lib.ListN.{length}
 use borrow.Author.Tests.{leb-true, le-leb}
-use Rattle.field.specs.Test.{both, pick, need, given, when, bind}
-use Rattle.field.specs.Bytes.{Bytes, put, most4}
+use Rattle.field.specs.Test.{bind}
+use Rattle.field.specs.Bytes.{Bytes, most4}
 use Rattle.field.proofs.Test.{both-1, both-2, need-true, given-some, bind-some, bind-intro, Bound, when-some}
-use Rattle.field.proofs.Number.{le4-small}
 use Rattle.field.proofs.Byte.{bytes-nil}
-use Rattle.page.specs.Page.{keyOf, toPage, entries, records, leaf, isLeaf, shaped}
-use Rattle.page.specs.Pages.{page}
-use Rattle.page.proofs.Rows.{Each}
-use Rattle.page.proofs.Made.{Fill, fit-leaf}
-use Rattle.page.proofs.Kept.{bytes-rows}
-use Rattle.page.proofs.Region.{fill-of}
 use Rattle.page.proofs.Pages.{bytes-page}
-use Rattle.log.specs.Record.{Check, Rec, LB, LO, LI, LM, LE, size, encode}
-use Rattle.log.specs.Plan.{Step, takeOut, bringIn, point, close}
-use Rattle.log.specs.Log.{Open, State, going, openedBy, after, taken, Log, atEnd}
+use Rattle.log.specs.Record.{Check, Rec}
+use Rattle.log.specs.Plan.{Step, close}
+use Rattle.log.specs.Log.{Open, State, going, openedBy, after}
 use Rattle.log.proofs.Plan.{Works, works-out, works-in, works-point, Ending}
 use Rattle.log.proofs.State.{number-atEnd}
-use Rattle.log.proofs.Valid.{Moved, Does, does-out, does-in, does-point, does-close, Follows, begins, goes, Fits, Good}
-use Rattle.log.proofs.Sound.{Sound, Waits, Awaits, waits-open, sound-atEnd}
+use Rattle.log.proofs.Valid.{Does, does-out, does-in, does-point, does-close, Follows, goes, Fits, Good}
+use Rattle.log.proofs.Sound.{Waits, Awaits, waits-open, sound-atEnd}
 use Rattle.log.proofs.Append.{atEnd-grown, good-grown}
-use Rattle.unit.specs.Next.{apply, repeat, repeatAll, targetOf, pageOf, keyBefore, isOther, lowestTo, skipped, nextRec, stepSize, room}
+use Rattle.unit.specs.Next.{apply, repeat, repeatAll, targetOf, pageOf, nextRec, room}
 use Rattle.unit.proofs.Places.{end-keeps}
 use Rattle.unit.proofs.Changed.{apply-bytes}
 use Rattle.tidy.proofs.Next.{next-does}
-use Rattle.store.specs.Calls.{Went, stopped, went, andThen, didOf, todoOf, append, logLength}
+use Rattle.store.specs.Calls.{stopped, went, andThen, didOf, todoOf, append, logLength}
 use Rattle.store.specs.Calls as Calls
 use Rattle.replay.specs.Store.{run}
 use Rattle.replay.specs.Store as Replay

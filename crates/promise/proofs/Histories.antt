@@ -1,39 +1,37 @@
 -- Every state of a history is live or lost in the sense of Live.antt; so recovery keeps what is promised. Assumes nothing but the unit laws
 -- and what is known of a finished build, which are handed in.
-use Prim.Native.Nat.{ℕ, zero, suc, _+_, _-_, _*_, _/_, _≤_, _<_}
+use Prim.Native.Nat.{ℕ, suc, _+_, _-_, _*_, _/_, _≤_}
 use native.Mathlib.Omega.{arith}
 use mathlib.Core.Path.{_≡_, refl, sym, ap, ap₂, _∙_, subst}
-use mathlib.Core.Bool.{Bool, true, false, false≢true}
-use mathlib.Core.List.{List, [], _∷_, _++_, append-nil}
+use mathlib.Core.Bool.{Bool, true, false}
+use mathlib.Core.List.{List, [], _∷_, _++_}
 use mathlib.Core.Option.{Option, some, none, Option·some-injective}
 use lib.ListN.{length, take, getD, length-append, length-drop}
 use lib.Seq.{take-length, take-append-le, take-take, length-take-le}
 use lib.Dec.{eqb}
-use borrow.Author.Tests.{eqb-true}
-use Rattle.field.specs.Test.{pick, need, given}
+use Rattle.field.specs.Test.{pick}
 use Rattle.field.specs.Bytes.{Bytes, zeroes}
-use Rattle.field.proofs.Test.{all-head, all-tail}
 use Rattle.page.specs.Page.{rowsOf}
 use Rattle.page.specs.Pages.{pages}
 use Rattle.log.specs.Record.{Check, Begin, Rec}
 use Rattle.log.specs.Plan.{Step, takeOut, bringIn, point, close, gather, removals, others, replacing, compactPlan, movePlan, swapPlan, plan}
-use Rattle.log.specs.Log.{Open, State, beginOk, Log, readLog, atEnd, lastForced}
+use Rattle.log.specs.Log.{Open, beginOk, readLog}
 use Rattle.log.proofs.Begin.{beginOk-limits}
 use Rattle.log.proofs.State.{sizes, at-atEnd}
 use Rattle.log.proofs.Valid.{Good}
 use Rattle.log.proofs.Sound.{Waits, waits-open, awaits-todo, sound-atEnd}
 use Rattle.log.proofs.Ends.{Ends, lastForced-facts, sizes-take-less}
 use Rattle.field.proofs.Part.{split}
-use Rattle.store.specs.Calls.{Lent, lent, Left, left, threeSized, pagesSized, logSized, logLength, todoOf}
+use Rattle.store.specs.Calls.{Lent, lent, Left, left, threeSized, logLength, todoOf}
 use Rattle.store.specs.Calls as Calls
-use Rattle.replay.specs.Store.{Settled, Reached, Recovers}
+use Rattle.replay.specs.Store.{Reached, Recovers}
 use Rattle.replay.specs.Store as Replay
 use Rattle.replay.specs.Laws.{UnitLaws}
 use Rattle.replay.proofs.Theorem.{theorem, origin-settled}
 use Rattle.promise.specs.Parts.{logOf, stateOf, store, asked}
-use Rattle.promise.specs.Promise.{Call, toBeginCompact, toBeginOrder, toStep, toFlush, toForce, toCheckpoint, toFind, toList, does, InBytes, Cut, History, Uncut, Kept}
+use Rattle.promise.specs.Promise.{Call, toBeginCompact, toBeginOrder, toStep, toFlush, toForce, toCheckpoint, toFind, toList, does, Cut, History, Kept}
 use Rattle.promise.proofs.OnPages.{page-laws}
-use Rattle.promise.proofs.Image.{image, Stored, Numbered, read-image, take-image, length-image}
+use Rattle.promise.proofs.Image.{read-image, take-image}
 use Rattle.promise.proofs.Recovering.{recoveredAs, recover-is}
 use Rattle.promise.proofs.Live.{Live, Lost, live-lost, live-room, lost-room, stored-of}
 use Rattle.promise.proofs.Called.{begin-compact-live, begin-order-live, step-live, flush-live, force-live, checkpoint-live, find-live, list-live}

@@ -1,28 +1,24 @@
 -- The bytes of a log of 8,192: its records, then zeros. How they are read, grow by a record, and are cut. Assumes nothing.
-use Prim.Native.Nat.{ℕ, zero, suc, _+_, _-_, _≤_, _<_}
+use Prim.Native.Nat.{ℕ, _+_, _-_, _≤_}
 use native.Mathlib.Omega.{arith}
-use mathlib.Core.Path.{_≡_, refl, sym, ap, _∙_}
-use mathlib.Core.Bool.{Bool, true, false}
+use mathlib.Core.Path.{_≡_, ap, _∙_}
 use mathlib.Core.List.{List, [], _∷_, _++_}
-use mathlib.Core.Option.{Option, some, none}
+use mathlib.Core.Option.{some}
 use lib.ListN.{length, take, length-append}
-use lib.Dec.{eqb}
 use borrow.Author.Tests.{eq-eqb}
-use Rattle.field.specs.Test.{both, when, bind, there}
 use Rattle.field.specs.Bytes.{Bytes, put, zeroes}
 use Rattle.field.proofs.Test.{both-intro, bind-intro, when-true, there-some}
 use Rattle.field.proofs.Zero.{length-zeroes}
 use Rattle.field.proofs.Byte.{bytes-append, bytes-zeroes}
 use Rattle.log.specs.Record.{Check, Rec, size, encode}
-use Rattle.log.specs.Log.{State, after, Log, readLog, atEnd, encodeLog, lastForced}
-use Rattle.log.proofs.Record.{Sized}
+use Rattle.log.specs.Log.{State, after, Log, readLog, encodeLog, lastForced}
 use Rattle.log.proofs.State.{sizes, at-atEnd, length-encodeLog, bytes-encodeLog}
 use Rattle.log.proofs.Valid.{Fits, Good, follows-sized, valid-sized, valid-narrow}
-use Rattle.log.proofs.Read.{ReadLog, readLog-facts}
+use Rattle.log.proofs.Read.{readLog-facts}
 use Rattle.log.proofs.Write.{readLog-encode}
-use Rattle.log.proofs.Append.{grown, atEnd-grown, put-grown, good-grown}
+use Rattle.log.proofs.Append.{atEnd-grown, put-grown, good-grown}
 use Rattle.log.proofs.Ends.{lastForced-take}
-use Rattle.log.proofs.Cut.{take-encodeLog, at-kept}
+use Rattle.log.proofs.Cut.{take-encodeLog}
 use Rattle.store.specs.Calls.{Lent, known, logLength}
 use Rattle.promise.specs.Parts.{logOf, stateOf}
 

@@ -1,26 +1,23 @@
 -- A state with work pages that a history leads to, as bytes, and what every call finds in it. `Live` is such a state, `Lost` one whose
 -- work pages may be gone. Assumes nothing but the unit laws, which are handed in.
-use Prim.Native.Nat.{ℕ, zero, suc, _+_, _-_, _≤_, _<_}
+use Prim.Native.Nat.{ℕ, _+_, _-_, _≤_}
 use native.Mathlib.Omega.{arith}
-use mathlib.Core.Path.{_≡_, refl, sym, ap, _∙_, subst}
-use mathlib.Core.Bool.{Bool, true, false}
+use mathlib.Core.Path.{_≡_, sym, ap, _∙_}
+use mathlib.Core.Bool.{true}
 use mathlib.Core.List.{List, [], _∷_, _++_, append-nil}
-use mathlib.Core.Option.{Option, some, none}
+use mathlib.Core.Option.{Option, some}
 use lib.ListN.{length, take, length-append}
-use lib.Seq.{take-append-le, take-length}
-use lib.Dec.{eqb}
+use lib.Seq.{take-append-le}
 use borrow.Author.Tests.{eq-eqb}
-use Rattle.field.specs.Test.{both, all}
-use Rattle.field.specs.Bytes.{Bytes, put, zeroes}
+use Rattle.field.specs.Bytes.{put}
 use Rattle.field.proofs.Test.{both-intro, all-intro, all-nil}
 use Rattle.log.specs.Record.{Check, Rec, size, encode, encodeCheck, encodeAll}
-use Rattle.log.specs.Log.{State, Log, atEnd, encodeLog}
+use Rattle.log.specs.Log.{encodeLog}
 use Rattle.log.proofs.State.{sizes, at-atEnd}
 use Rattle.log.proofs.Record.{length-encodeCheck}
-use Rattle.log.proofs.Valid.{Fits, Good}
-use Rattle.unit.specs.Next.{apply}
-use Rattle.store.specs.Calls.{Lent, lent, known, twoSized, threeSized, pagesSized, logSized, newLog, logLength}
-use Rattle.replay.specs.Store.{Formed, Reached, Recovers}
+use Rattle.log.proofs.Valid.{Fits}
+use Rattle.store.specs.Calls.{Lent, lent, known, twoSized, threeSized, pagesSized, logSized, newLog}
+use Rattle.replay.specs.Store.{Formed, Reached}
 use Rattle.replay.specs.Laws.{UnitLaws}
 use Rattle.replay.proofs.Theorem.{theorem, work-formed}
 use Rattle.promise.specs.Parts.{logOf, stateOf, store, asked}

@@ -1,27 +1,27 @@
 -- The page laws of the generic half, of the store's pages and records. Assumes nothing.
-use Prim.Native.Nat.{ℕ, zero, suc, _+_, _≤_, _<_}
+use Prim.Native.Nat.{ℕ, _≤_, _<_}
 use native.Mathlib.Omega.{arith}
 use native.Mathlib.Decide.{ℕ-discrete}
-use mathlib.Core.Path.{_≡_, refl, sym, ap, _∙_, subst}
-use mathlib.Core.Logic.{_⊎_, inl, inr, ⊎-elim, _≢_}
+use mathlib.Core.Path.{_≡_, refl, sym, ap, _∙_}
+use mathlib.Core.Logic.{_⊎_, inl, inr, ⊎-elim}
 use mathlib.Core.Bool.{Bool, true, false, cond}
-use mathlib.Core.List.{List, [], _∷_, _++_}
+use mathlib.Core.List.{List}
 use mathlib.Core.Option.{Option, some, none, Option·some-injective}
 use lib.ListN.{length}
 use lib.Dec.{eqb, leb}
-use borrow.Author.Tests.{eq-eqb, ne-eqb, eqb-true}
-use Rattle.field.specs.Test.{pick, given, bind}
+use borrow.Author.Tests.{eq-eqb, ne-eqb}
+use Rattle.field.specs.Test.{pick, given}
 use Rattle.field.specs.Bytes.{Bytes, most4}
-use Rattle.field.proofs.Test.{pick-true, pick-false, given-some, bind-some, bind-intro, Bound}
+use Rattle.field.proofs.Test.{pick-true, pick-false, bind-some, bind-intro}
 use Rattle.page.specs.Page.{number, formed}
 use Rattle.page.specs.Pages.{page, putPage}
 use Rattle.page.proofs.Pages.{bytes-page, bytes-putPage, length-page, length-putPage, page-putPage-same, page-putPage-other, pages-ext}
-use Rattle.log.specs.Record.{Check, Rec}
+use Rattle.log.specs.Record.{Rec}
 use Rattle.unit.specs.Next.{target, change, changedAt, apply, repeat}
 use Rattle.unit.proofs.Changed.{Leaves, change-leaves, change-bytes, target-page}
-use Rattle.replay.specs.Store.{Meaning, again, Formed}
+use Rattle.replay.specs.Store.{Meaning, again}
 use Rattle.replay.specs.Laws.{Stands, PageLaws}
-use Rattle.promise.specs.Parts.{logOf, stateOf, changeAt, store, asked}
+use Rattle.promise.specs.Parts.{changeAt, store, asked}
 use Rattle.promise.proofs.Standing.{Standing, last-standing}
 
 module _ (rs : List (List ℕ)) where

@@ -1,30 +1,30 @@
 -- The unit laws of the generic half: a unit that can be carried out (crate `tidy`) can be finished in the sense of the generic half, its
 -- records one after the other in the log. Assumes nothing but that a chosen unit can be carried out, which is handed in.
-use Prim.Native.Nat.{ℕ, zero, suc, _+_, _-_, _≤_, _<_}
+use Prim.Native.Nat.{ℕ, suc, _+_, _-_, _≤_}
 use native.Mathlib.Omega.{arith}
 use mathlib.Core.Path.{_≡_, refl, sym, ap, _∙_, subst}
 use mathlib.Core.Bool.{Bool, true, false}
-use mathlib.Core.Logic.{_⊎_, inl, inr}
+use mathlib.Core.Logic.{inl, inr}
 use mathlib.Core.List.{List, [], _∷_, _++_}
 use mathlib.Core.Option.{Option, some, none, Option·some-injective}
 use lib.ListN.{length, getD, length-append}
-use lib.Dec.{eqb, leb}
+use lib.Dec.{eqb}
 use borrow.Author.Tests.{le-leb}
-use Rattle.field.specs.Test.{both, pick, when, bind}
+use Rattle.field.specs.Test.{pick, bind}
 use Rattle.field.specs.Bytes.{Bytes, most4}
 use Rattle.field.proofs.Test.{both-intro, bind-intro, when-true}
 use Rattle.page.specs.Page.{isEmpty}
 use Rattle.page.specs.Pages.{pages}
 use Rattle.page.proofs.Pages.{formed-pages}
-use Rattle.log.specs.Record.{Check, Begin, Rec, LB, LO, LI, LM, LE, size}
-use Rattle.log.specs.Plan.{Step, takeOut, bringIn, point, close, plan}
-use Rattle.log.specs.Log.{Open, State, going, openedBy, after, beginOk, Log, atEnd}
+use Rattle.log.specs.Record.{Check, Begin, Rec, LB, size}
+use Rattle.log.specs.Plan.{Step, close, plan}
+use Rattle.log.specs.Log.{Open, State, going, openedBy, after}
 use Rattle.log.proofs.Plan.{Ending}
 use Rattle.log.proofs.State.{number-atEnd}
-use Rattle.log.proofs.Valid.{Does, does-out, does-in, does-point, does-close, Follows, begins, goes, Fits, Small, Good}
+use Rattle.log.proofs.Valid.{Does, does-out, does-in, does-point, does-close, Follows, begins, Fits, Small, Good}
 use Rattle.log.proofs.Cut.{good-bare}
-use Rattle.log.proofs.Sound.{Sound, Waits, Awaits, waits-open, sound-atEnd}
-use Rattle.log.proofs.Append.{atEnd-grown, good-grown}
+use Rattle.log.proofs.Sound.{Sound, Awaits, sound-atEnd}
+use Rattle.log.proofs.Append.{atEnd-grown}
 use Rattle.tree.specs.Tree.{wellFormed, allRecords, Leaf, leavesOf}
 use Rattle.unit.specs.Choice.{fillOf, larger, compactOf, chooseCompact, compactUnit, place, baseOf, moveOf, swapOf, putInOrder, chooseOrder, orderUnit}
 use Rattle.unit.specs.Next.{apply, targetOf, pageOf, nextRec, stepSize, room}
@@ -34,10 +34,10 @@ use Rattle.tidy.specs.Tidy.{Tidy, Carried, done, step, Keeps}
 use Rattle.store.specs.Calls.{didOf, todoOf, logLength, checkpointed}
 use Rattle.replay.specs.Store.{Settled}
 use Rattle.replay.specs.Laws.{Able, closed, more, UnitLaws}
-use Rattle.promise.specs.Parts.{logOf, stateOf, nextOf, store, asked, Chooses, Begins, Checks}
+use Rattle.promise.specs.Parts.{logOf, stateOf, nextOf, store, asked, Chooses, Checks}
 use Rattle.promise.proofs.Standing.{Standing, fits-standing}
 use Rattle.promise.proofs.Image.{Stored, at-grown, stored-grown}
-use Rattle.promise.proofs.Forward.{Opened, opened-at, Next, next-facts, next-fits, ending-close, follows-does, todo-after, awaits-at}
+use Rattle.promise.proofs.Forward.{Opened, opened-at, next-facts, next-fits, ending-close, follows-does, todo-after, awaits-at}
 use Rattle.promise.proofs.Called.{bare-at, apply-begin}
 use Rattle.promise.proofs.Accepted.{open-none}
 use Rattle.promise.proofs.Starts.{none-left-bare}

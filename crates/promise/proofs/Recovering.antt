@@ -1,34 +1,32 @@
 -- Recovery on bytes, where the generic half says that recovery is accepted: what it leaves. Assumes nothing.
-use Prim.Native.Nat.{ℕ, zero, suc, _+_, _-_, _≤_, _<_}
+use Prim.Native.Nat.{ℕ, suc, _+_, _-_, _≤_, _<_}
 use native.Mathlib.Omega.{arith}
-use mathlib.Core.Path.{_≡_, refl, sym, ap, _∙_, subst}
+use mathlib.Core.Path.{_≡_, refl, ap, _∙_}
 use mathlib.Core.Bool.{Bool, true, false}
 use mathlib.Core.List.{List, [], _∷_, _++_}
-use mathlib.Core.Option.{Option, some, none, Option·some-injective}
+use mathlib.Core.Option.{some, Option·some-injective}
 use mathlib.Core.Option as Option
 use lib.ListN.{length, getD, length-append}
-use lib.Dec.{eqb, leb}
+use lib.Dec.{leb}
 use borrow.Author.Tests.{le-leb}
-use Rattle.field.specs.Test.{both, pick, need, given, bind}
+use Rattle.field.specs.Test.{pick}
 use Rattle.field.specs.Bytes.{Bytes}
-use Rattle.field.proofs.Test.{both-intro, need-true, given-some, Bound}
-use Rattle.page.specs.Page.{number, formed}
-use Rattle.page.specs.Pages.{page, pages, allFormed}
+use Rattle.field.proofs.Test.{both-intro, need-true, given-some}
+use Rattle.page.specs.Page.{number}
+use Rattle.page.specs.Pages.{page, pages}
 use Rattle.page.proofs.Pages.{length-pages, getD-pages, formed-pages}
 use Rattle.log.specs.Record.{Check, Rec}
-use Rattle.log.specs.Log.{State, Log, readLog, atEnd}
 use Rattle.log.proofs.State.{Every, number-atEnd}
 use Rattle.log.proofs.Valid.{Good}
-use Rattle.tree.specs.Tree.{wellFormed, allRecords}
-use Rattle.unit.specs.Next.{target, change, changedAt, repeat, repeatAll}
+use Rattle.unit.specs.Next.{target, change, repeat}
 use Rattle.unit.proofs.Changed.{RowsOf, at-bytes, change-bytes}
-use Rattle.store.specs.Calls.{Lent, lent, Left, left, threeSized, refused, zeroed, noneNewer, Went, went, recovered, todoOf}
+use Rattle.store.specs.Calls.{Lent, lent, Left, left, threeSized, refused, zeroed, noneNewer, went, recovered, todoOf}
 use Rattle.store.specs.Calls as Calls
 use Rattle.replay.specs.Store.{run, Recovers}
 use Rattle.replay.specs.Store as Replay
 use Rattle.promise.specs.Parts.{logOf, stateOf, store, asked}
 use Rattle.promise.proofs.Standing.{good-rows}
-use Rattle.promise.proofs.Image.{image, Stored, read-image}
+use Rattle.promise.proofs.Image.{image, read-image}
 use Rattle.promise.proofs.Forward.{generic-bind, finish-is, repeat-is}
 
 -- ---- reply 4

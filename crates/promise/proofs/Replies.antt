@@ -1,21 +1,19 @@
 -- Inside a history begin and step never refuse the log, a page, a page change or the tree. Assumes nothing but the unit laws, which are
 -- handed in.
-use Prim.Native.Nat.{ℕ, zero, suc, _+_}
+use Prim.Native.Nat.{ℕ}
 use native.Mathlib.Omega.{arith}
-use mathlib.Core.Path.{_≡_, refl, sym, ap, _∙_, subst}
+use mathlib.Core.Path.{_≡_, refl, sym, ap, _∙_}
 use mathlib.Core.Logic.{_⊎_, inl, inr, ⊎-elim}
 use mathlib.Core.Bool.{Bool, true, false, not}
-use mathlib.Core.List.{List, [], _∷_}
+use mathlib.Core.List.{List}
 use mathlib.Core.Option.{Option, some, none}
-use lib.ListN.{length}
 use Rattle.field.specs.Test.{need, given, there}
 use Rattle.field.proofs.Test.{need-true, need-false, given-some}
-use Rattle.page.specs.Pages.{pages}
 use Rattle.page.proofs.Pages.{formed-pages}
 use Rattle.log.specs.Record.{Begin}
-use Rattle.log.specs.Log.{Open, State, Log, atEnd}
+use Rattle.log.specs.Log.{Open}
 use Rattle.unit.specs.Choice.{orderUnit}
-use Rattle.store.specs.Calls.{Lent, Left, left, refused, begun, beginWith, todoOf}
+use Rattle.store.specs.Calls.{Lent, Left, refused, begun, beginWith}
 use Rattle.store.specs.Calls as Calls
 use Rattle.replay.specs.Store.{Settled}
 use Rattle.replay.specs.Laws.{UnitLaws}

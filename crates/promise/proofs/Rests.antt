@@ -1,13 +1,12 @@
 -- Find's answer rests on three pages: the root, one base page, one leaf. Work pages that agree on these give the same answer. Assumes nothing.
 use Prim.Native.Nat.{ℕ}
-use mathlib.Core.Path.{_≡_, refl, sym, ap, _∙_, subst}
-use mathlib.Core.Bool.{Bool, true, false, not}
-use mathlib.Core.List.{List, [], _∷_}
+use mathlib.Core.Path.{_≡_, refl, ap, _∙_, subst}
+use mathlib.Core.List.{List}
 use mathlib.Core.Option.{Option, some, none}
-use Rattle.field.specs.Test.{both, need, given}
-use Rattle.page.specs.Page.{entries, records, formed, isEmpty}
+use Rattle.field.specs.Test.{need, given}
+use Rattle.page.specs.Page.{entries}
 use Rattle.page.specs.Pages.{page}
-use Rattle.tree.specs.Answer.{Found, missing, found, lastNotAbove, readable, inLeaf, down, lookUp}
+use Rattle.tree.specs.Answer.{Found, missing, lastNotAbove, readable, inLeaf, down, lookUp}
 use Rattle.promise.specs.Promise.{Rests}
 
 -- a page number, 0 where there is none

@@ -1,17 +1,15 @@
 -- A record that ends a log in form: its number fits, its page lies in its region, and what it brings in are rows of an LO. Assumes nothing.
-use Prim.Native.Nat.{ℕ, zero, suc, _+_, _≤_, _<_}
-use native.Mathlib.Omega.{arith}
-use mathlib.Core.Path.{_≡_, refl, sym, ap, _∙_, subst}
-use mathlib.Core.Bool.{Bool, true, false}
+use Prim.Native.Nat.{ℕ, _+_, _≤_}
+use mathlib.Core.Path.{_≡_}
 use mathlib.Core.List.{List, [], _∷_, _++_}
-use mathlib.Core.Option.{Option, some, none}
+use mathlib.Core.Option.{Option}
 use lib.ListN.{length}
 use Rattle.field.specs.Bytes.{most4}
-use Rattle.log.specs.Record.{Check, Rec, LB, LO, LI, LM, LE}
-use Rattle.log.specs.Plan.{Step, bringIn}
-use Rattle.log.specs.Log.{Open, State, first, afterAll, taken, Log, atEnd}
+use Rattle.log.specs.Record.{Check, Rec}
+use Rattle.log.specs.Plan.{Step}
+use Rattle.log.specs.Log.{Open, State, first, Log, atEnd}
 use Rattle.log.proofs.State.{Every, number-atEnd}
-use Rattle.log.proofs.Valid.{Moved, Does, does-out, does-in, does-point, does-close, Follows, begins, goes, Fits, Valid, nil, cons, Good, valid-split}
+use Rattle.log.proofs.Valid.{Does, does-out, does-in, does-point, does-close, Follows, begins, goes, Fits, Valid, nil, cons, Good, valid-split}
 use Rattle.log.proofs.Sound.{Sound, Waits, Awaits, waits-open, awaits-moved, sound-first, sound-after, sound-atEnd}
 use Rattle.unit.proofs.Places.{RecKeeps, OpenKeeps, follows-keeps, end-keeps}
 use Rattle.unit.proofs.Changed.{RowsOf}

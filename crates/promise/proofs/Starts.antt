@@ -4,27 +4,26 @@ use Prim.Native.Nat.{ℕ, zero, suc, _+_, _-_, _*_, _/_, _%_, _≤_, _<_}
 use native.Mathlib.Omega.{arith}
 use mathlib.Core.Path.{_≡_, refl, sym, ap, ap₂, _∙_, subst}
 use mathlib.Core.Bool.{Bool, true, false}
-use mathlib.Core.List.{List, [], _∷_, _++_}
-use mathlib.Core.Option.{Option, some, none}
+use mathlib.Core.List.{List, [], _∷_}
+use mathlib.Core.Option.{some, none}
 use lib.ListN.{length, getD}
-use lib.Dec.{eqb, leb}
 use borrow.Author.Tests.{eqb-true, leb-true}
-use Rattle.field.specs.Test.{both, need, given}
+use Rattle.field.specs.Test.{need, given}
 use Rattle.field.specs.Bytes.{Bytes}
 use Rattle.field.proofs.Test.{both-1, both-2, all-head, all-tail, need-true, given-some}
 use Rattle.page.specs.Page.{rowsOf, ascendRecords, number}
 use Rattle.page.proofs.Rows.{long-rowsOf, bytes-rowsOf}
 use Rattle.page.specs.Pages.{page, pages, allFormed}
 use Rattle.page.proofs.Pages.{length-pages, getD-pages, formed-page}
-use Rattle.log.specs.Record.{Check, Rec}
-use Rattle.log.specs.Log.{first, afterAll, Log, readLog, atEnd}
+use Rattle.log.specs.Record.{Check}
+use Rattle.log.specs.Log.{first, afterAll, readLog, atEnd}
 use Rattle.log.proofs.State.{number-atEnd}
 use Rattle.log.proofs.Cut.{good-bare}
 use Rattle.tree.specs.Tree.{wellFormed, allRecords}
 use Rattle.tree.specs.Layout.{leafGroups, baseGroups, layout}
 use Rattle.laid.proofs.Laid.{Laid, layout-laws}
 use Rattle.unit.specs.Next.{repeatAll}
-use Rattle.store.specs.Calls.{Lent, lent, Left, left, refused, zeroed, threeSized, pagesSized, logSized, noneNewer, Went, went, finish, recovered, todoOf, newLog}
+use Rattle.store.specs.Calls.{Lent, lent, Left, left, refused, zeroed, threeSized, pagesSized, logSized, noneNewer, finish, recovered, todoOf, newLog}
 use Rattle.store.specs.Calls as Calls
 use Rattle.replay.specs.Store.{Settled, Reached}
 use Rattle.promise.specs.Parts.{logOf, stateOf, store, asked}

@@ -1,10 +1,10 @@
 -- The store's pages, records and units as the generic half of demand 3 asks for them (`replay`): which definitions of the calls stand for
 -- what there. Nothing is defined here that a call does not use, but for what a record does to one page by its number. Assumes nothing.
-use Prim.Native.Nat.{ℕ, _+_, _≤_, _<_}
+use Prim.Native.Nat.{ℕ, _+_, _≤_}
 use mathlib.Core.Path.{_≡_}
 use mathlib.Core.Logic.{_⊎_}
 use mathlib.Core.Bool.{Bool, true}
-use mathlib.Core.List.{List, [], _∷_, _++_}
+use mathlib.Core.List.{List, [], _∷_}
 use mathlib.Core.Option.{Option, some, none}
 use lib.ListN.{length}
 use lib.Dec.{eqb, leb}
@@ -14,7 +14,7 @@ use Rattle.page.specs.Page.{number, formed}
 use Rattle.page.specs.Pages.{page, putPage, pages}
 use Rattle.log.specs.Record.{Check, Begin, Rec, LB, size}
 use Rattle.log.specs.Plan.{Step, plan}
-use Rattle.log.specs.Log.{State, first, afterAll, Log, atEnd}
+use Rattle.log.specs.Log.{State, Log, atEnd}
 use Rattle.log.proofs.Valid.{Good}
 use Rattle.tree.specs.Tree.{wellFormed, allRecords}
 use Rattle.unit.specs.Choice.{compactUnit, orderUnit}

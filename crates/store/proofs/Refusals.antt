@@ -1,16 +1,16 @@
 -- "A refusal returns zeros beside its number and changes nothing, but a refused recovery past test 1 zeroes all work pages; its log and
 -- numbers stay": of each call's definition. Assumes nothing.
-use Prim.Native.Nat.{ℕ, zero, suc, _+_}
-use mathlib.Core.Path.{_≡_, refl, sym, ap, _∙_}
-use mathlib.Core.Bool.{Bool, true, false, not}
-use mathlib.Core.List.{List, [], _∷_}
+use Prim.Native.Nat.{ℕ}
+use mathlib.Core.Path.{_≡_, refl, sym, ap}
+use mathlib.Core.Bool.{Bool, true, false}
+use mathlib.Core.List.{List}
 use mathlib.Core.Option.{Option, some, none}
 use Rattle.field.specs.Test.{need, given}
 use Rattle.field.proofs.Test.{need-true, need-false}
 use Rattle.log.specs.Record.{Begin}
 use Rattle.log.specs.Log.{State}
 use Rattle.tree.specs.Answer.{Found, missing, found}
-use Rattle.store.specs.Calls.{Lent, lent, Left, left, refused, zeroed, threeSized, Went, stopped, went, stepped, recovered, answered, begun, beginWith, build, recover, beginCompact, beginOrder, step, flush, force, checkpoint, find, list}
+use Rattle.store.specs.Calls.{Lent, Left, refused, zeroed, threeSized, Went, stopped, went, stepped, recovered, answered, begun, beginWith, build, recover, beginCompact, beginOrder, step, flush, force, checkpoint, find, list}
 
 -- q says what a refusal with a reply leaves; x is what a call leaves, and refuses only so
 abbrev pub Refuses : (q : ℕ → Left) → Left → Type 0

@@ -1,6 +1,6 @@
 -- The ten calls of document 01: each a function from what it is lent and its arguments to what it leaves, so that its value depends on
 -- nothing else. The tests stand in the order of the table "Order of tests", each with the reply that it gives. Assumes nothing.
-use Prim.Native.Nat.{ℕ, zero, suc, _+_, _-_, _%_, _/_}
+use Prim.Native.Nat.{ℕ, _+_, _-_, _%_, _/_}
 use mathlib.Core.Bool.{Bool, true, false, not}
 use mathlib.Core.List.{List, [], _∷_, _++_}
 use mathlib.Core.Option.{Option, some, none}

@@ -1,6 +1,6 @@
 -- What find and list answer of the work pages w. Assumes nothing.
 use Prim.Native.Nat.{ℕ, _/_}
-use mathlib.Core.Bool.{Bool, true, false, not}
+use mathlib.Core.Bool.{Bool, not}
 use mathlib.Core.List.{List, [], _∷_}
 use mathlib.Core.Option.{Option, some, none}
 use lib.ListN.{length, take}

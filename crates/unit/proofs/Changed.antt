@@ -1,28 +1,27 @@
 -- What a record leaves of the page that it changes: a page of 256 bytes, in form where the record stands in a log in form, stamped with
 -- the record's number. Assumes nothing.
-use Prim.Native.Nat.{ℕ, zero, suc, _+_, _-_, _*_, _≤_, _<_}
+use Prim.Native.Nat.{ℕ, _-_, _≤_, _<_}
 use native.Mathlib.Omega.{arith}
-use mathlib.Core.Path.{_≡_, refl, sym, ap, _∙_}
-use mathlib.Core.Logic.{_⊎_, inl, inr, ⊎-elim}
-use mathlib.Core.Bool.{Bool, true, false, false≢true}
-use mathlib.Core.List.{List, [], _∷_, _++_}
+use mathlib.Core.Path.{_≡_, sym, _∙_}
+use mathlib.Core.Logic.{_⊎_, ⊎-elim}
+use mathlib.Core.Bool.{Bool, true, false}
+use mathlib.Core.List.{List, []}
 use mathlib.Core.Option.{Option, some, none}
-use lib.ListN.{length, getD}
-use lib.Dec.{eqb, leb}
+use lib.ListN.{length}
+use lib.Dec.{eqb}
 use borrow.Author.Tests.{eq-eqb, ne-eqb}
-use Rattle.field.specs.Test.{pick, bind}
+use Rattle.field.specs.Test.{pick}
 use Rattle.field.specs.Bytes.{Bytes}
-use Rattle.field.proofs.Test.{pick-true, pick-false, bind-some, Bound}
+use Rattle.field.proofs.Test.{pick-true, pick-false, bind-some}
 use Rattle.page.specs.Page.{number, base, leaf, empty, isBase, isLeaf, isEmpty, formed}
-use Rattle.page.specs.Change.{emptied, appended, redirected, removed}
+use Rattle.page.specs.Change.{redirected, removed}
 use Rattle.page.specs.Pages.{page, putPage}
-use Rattle.page.proofs.Rows.{Each, Long}
 use Rattle.page.proofs.Kept.{Changed, emptied-kept, appended-kept, redirected-kept, removed-kept, bytes-emptied, bytes-appended, bytes-redirected, bytes-removed}
 use Rattle.page.proofs.Region.{empty-formed, base-formed, leaf-formed}
 use Rattle.page.proofs.Pages.{bytes-page, bytes-putPage}
-use Rattle.log.specs.Record.{Begin, Rec, LB, LO, LI, LM, LE}
+use Rattle.log.specs.Record.{Rec, LB, LO, LI, LM, LE}
 use Rattle.log.proofs.Valid.{Moved}
-use Rattle.unit.specs.Next.{target, change, changedAt, apply, repeat, repeatAll}
+use Rattle.unit.specs.Next.{target, change, changedAt, apply}
 use Rattle.unit.proofs.Places.{Leafy, Basic, RecKeeps}
 
 -- the rows of an LI are those that an LO took out

@@ -2,21 +2,21 @@
 -- So it is of every step that a begin record in form gives, and of every record of a log in form. Assumes nothing.
 use Prim.Native.Nat.{ℕ, zero, suc, _+_, _≤_, _<_}
 use native.Mathlib.Omega.{arith}
-use mathlib.Core.Path.{_≡_, refl, sym, ap, _∙_}
+use mathlib.Core.Path.{_≡_, refl, ap}
 use mathlib.Core.Logic.{_⊎_, inl, inr}
 use mathlib.Core.Bool.{Bool, true, false}
 use mathlib.Core.List.{List, [], _∷_, _++_}
 use mathlib.Core.Option.{Option, some, none}
 use lib.ListN.{length, drop, getD}
-use lib.Dec.{eqb, leb}
+use lib.Dec.{eqb}
 use borrow.Author.Tests.{eqb-true, leb-true}
-use Rattle.field.specs.Test.{both, all, pick, bind}
-use Rattle.field.proofs.Test.{both-1, both-2, all-head, all-tail}
-use Rattle.log.specs.Record.{Check, Begin, Rec, LB, LO, LI, LM, LE}
+use Rattle.field.specs.Test.{both, pick, bind}
+use Rattle.field.proofs.Test.{both-2, all-head, all-tail}
+use Rattle.log.specs.Record.{Begin, Rec, LB, LO, LI, LM, LE}
 use Rattle.log.specs.Plan.{Step, takeOut, bringIn, point, close, gather, removals, others, replacing, compactPlan, movePlan, swapPlan, plan}
 use Rattle.log.specs.Log.{Open, State, first, going, openedBy, after, afterAll, within, compactOk, swapOk, moveOk, typeOk, beginOk, Log, atEnd}
 use Rattle.log.proofs.Begin.{within-head, within-tail}
-use Rattle.log.proofs.Valid.{Does, does-out, does-in, does-point, does-close, Follows, begins, goes, Fits, Valid, nil, cons, Good}
+use Rattle.log.proofs.Valid.{Does, does-out, does-in, does-point, does-close, Follows, begins, goes, Valid, nil, cons, Good}
 use Rattle.log.proofs.State.{Every}
 
 -- a leaf page, a base page

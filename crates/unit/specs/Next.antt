@@ -1,7 +1,7 @@
 -- Document 01, "Steps": the record that a planned step appends, what a record does to the pages, forward and repeated alike, and the
 -- room that steps need. Assumes nothing.
-use Prim.Native.Nat.{ℕ, zero, suc, _+_}
-use mathlib.Core.Bool.{Bool, true, false, not}
+use Prim.Native.Nat.{ℕ, _+_}
+use mathlib.Core.Bool.{Bool, true, not}
 use mathlib.Core.List.{List, [], _∷_}
 use mathlib.Core.Option.{Option, some, none}
 use lib.Dec.{eqb, leb}
@@ -9,7 +9,7 @@ use Rattle.field.specs.Test.{both, pick, when, bind}
 use Rattle.page.specs.Page.{keyOf, toPage, count, number, entries, records, isLeaf}
 use Rattle.page.specs.Change.{emptied, appended, redirected, removed}
 use Rattle.page.specs.Pages.{page, putPage}
-use Rattle.log.specs.Record.{out, into, modify, end, lengthOf, Begin, Rec, LB, LO, LI, LM, LE}
+use Rattle.log.specs.Record.{out, into, modify, end, lengthOf, Rec, LB, LO, LI, LM, LE}
 use Rattle.log.specs.Plan.{Step, takeOut, bringIn, point, close}
 use Rattle.log.specs.Log.{taken}
 

@@ -1,2 +1,4 @@
--- Laws about the calls' definitions.
+-- Laws about the calls' definitions: refusals, and each way through a call's tests.
 pub mod Refusals
+pub mod Chain
+pub mod Build

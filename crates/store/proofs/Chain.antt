@@ -56,11 +56,11 @@ module _ (d : Lent) where
 
 -- ---- a unit is open, or none
 
-not-there : {A : Type 0} (o : Option A) → o ≡ none → not (there o) ≡ true
+pub not-there : {A : Type 0} (o : Option A) → o ≡ none → not (there o) ≡ true
 unfolding there
 not-there o e = rw e
 
-is-there : {A : Type 0} (o : Option A) (a : A) → o ≡ some a → not (there o) ≡ false
+pub is-there : {A : Type 0} (o : Option A) (a : A) → o ≡ some a → not (there o) ≡ false
 unfolding there
 is-there o a e = rw e
 

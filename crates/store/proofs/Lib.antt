@@ -2,3 +2,4 @@
 pub mod Refusals
 pub mod Chain
 pub mod Build
+pub mod Writing

@@ -1,7 +1,7 @@
 -- The four page changes: what each asks of its page, and that it makes a page in form, stamped, with the rows it should have.
 -- Assumes nothing.
 use Prim.Native.Nat.{ℕ, zero, suc, _+_, _-_, _*_, _≤_, _<_}
-use native.Mathlib.Nat.{mul-le-mul-left}
+use native.Mathlib.Nat.{mul-le-mul-left, le-trans}
 use native.Mathlib.Omega.{arith}
 use mathlib.Core.Path.{_≡_, refl, sym, ap, _∙_}
 use mathlib.Core.Logic.{_⊎_, inl, inr, ⊎-elim}
@@ -19,15 +19,12 @@ use Rattle.field.proofs.Zero.{length-zeroes}
 use Rattle.field.proofs.Byte.{bytes-drop, bytes-part, bytes-put, bytes-bytes2, bytes-zeroes}
 use Rattle.page.specs.Page.{Kind, base, leaf, empty, rowsOf, joined, ascend, ascendRecords, pointing, count, number, spare, rows, entries, records, made, shaped, isBase, isLeaf, isEmpty}
 use Rattle.page.specs.Change.{above, emptied, appended, has, pointTo, without, redirected, removed}
-use Rattle.page.proofs.Rows.{Each, nil, cons, Long, each-append, length-rowsOf, long-rowsOf, bytes-rowsOf}
+use Rattle.page.proofs.Rows.{Each, nil, cons, Long, each-append, length-rowsOf, length-rows, long-rowsOf, bytes-rowsOf}
 use Rattle.page.proofs.Order.{ascend-append, Found, has-found, without-at, each-without, ascend-without, pointing-without, length-pointTo, each-pointTo, long-pointed, ascend-pointTo, pointing-pointTo}
+use Rattle.page.proofs.Written.{body, body-of}
 use Rattle.page.proofs.Made.{Shaped, shaped-facts, Fit, fit-base, fit-leaf, fit-empty, Fill, shaped-made, rows-made, spare-made, number-made, length-made, bytes-made, room-joined}
 
 -- ---- the rows of a page in form
-
-pub length-rows : (sz : ℕ) (pg : List ℕ) → length (rows sz pg) ≡ count pg
-unfolding rows
-length-rows sz pg = length-rowsOf sz (count pg) (drop 16 pg)
 
 pub bytes-rows : (sz : ℕ) (pg : List ℕ) → Bytes pg → Each Bytes (rows sz pg)
 unfolding rows
@@ -98,16 +95,29 @@ pub record Takes (pg : List ℕ) : Type 0 where
   pub long : Each (Long 16) (records pg)
   pub order : ascendRecords 0 (records pg) ≡ true
   pub clear : spare pg ≡ zeroes 8
+  pub whole : length pg ≡ 256
+  pub mark : getD pg 0 0 ≡ 112
+  pub inside : drop 16 pg ≡ body (records pg)
+  pub few : count pg ≤ 15
+
+takes-by : (k : Kind) (pg : List ℕ) → Fit k → shaped k pg ≡ true → k .size ≡ 16 → k .first ≡ 114 → k .second ≡ 99 → k .most ≤ 15 → Takes pg
+takes-by k pg fit e z a b m =
+    let s : Shaped k pg = shaped-facts k pg e in
+    let f : Fill k (rows (k .size) pg) = fill-of k pg fit e in
+    record {
+      long = rw z at (f .long);
+      order = rw (z, a, b) at (f .order);
+      clear = s .gap;
+      whole = s .whole;
+      mark = s .mark;
+      inside = rw z at (body-of (k .size) pg (s .whole) (s .rest));
+      few = le-trans (s .room) m;
+    }
 
 pub takes : (pg : List ℕ) → (isEmpty pg ≡ true) ⊎ (isLeaf pg ≡ true) → Takes pg
 unfolding isEmpty isLeaf
 takes pg t =
-    ⊎-elim
-    (λ e. let f : Fill empty (records pg) = fill-of empty pg fit-empty e in
-    record { long = f .long; order = f .order; clear = shaped-facts empty pg e .gap })
-    (λ e. let f : Fill leaf (records pg) = fill-of leaf pg fit-leaf e in
-    record { long = f .long; order = f .order; clear = shaped-facts leaf pg e .gap })
-    t
+    ⊎-elim (λ e. takes-by empty pg fit-empty e refl refl refl (omega arith)) (λ e. takes-by leaf pg fit-leaf e refl refl refl (omega arith)) t
 
 pub appended-kept : (n : ℕ) (rs : List (List ℕ)) (pg pg′ : List ℕ) → appended n rs pg ≡ some pg′ → n < 4294967296 → Each (Long 16) rs → 1 ≤ length rs
     → Changed leaf n (records pg ++ rs) pg′

@@ -3,6 +3,8 @@ pub mod Rows
 pub mod Order
 pub mod Turns
 pub mod Tests
+pub mod Written
 pub mod Made
 pub mod Kept
+pub mod Changes
 pub mod Pages

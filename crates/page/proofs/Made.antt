@@ -19,7 +19,8 @@ use Rattle.field.proofs.Number.{length-bytes2, length-bytes4, le2-drop, le4-dro
 use Rattle.field.proofs.Zero.{length-zeroes, zeroes-of, all-zeroes}
 use Rattle.field.proofs.Byte.{bytes-cons, bytes-append, bytes-bytes2, bytes-bytes4, bytes-zeroes}
 use Rattle.page.specs.Page.{Kind, kind, root, base, leaf, empty, rowsOf, joined, ascend, letter, count, number, spare, rows, made, shaped}
-use Rattle.page.proofs.Rows.{Each, Long, length-rowsOf, joined-rowsOf, length-joined, rowsOf-joined, bytes-joined}
+use Rattle.page.proofs.Rows.{Each, Long, length-rows, length-joined, rowsOf-joined, bytes-joined}
+use Rattle.page.proofs.Written.{topped, made-topped, topped-is, body-of}
 
 -- ---- what stands in a page that was made
 
@@ -133,21 +134,10 @@ shaped-of k pg f =
 -- 256 bytes that begin with `p`, and hold nothing but zeros behind their rows of sz bytes
 pub made-is : (sz : ℕ) (pg : List ℕ) → length pg ≡ 256 → getD pg 0 0 ≡ 112 → drop (16 + sz * count pg) pg ≡ zeroes (240 - sz * count pg) → Bytes pg
     → pg ≡ made (letter pg) (number pg) (spare pg) (rows sz pg)
-unfolding made number count letter spare rows
 made-is sz pg long p z b =
-    let n : ℕ = sz * le2 pg 2 in
-    let body : List ℕ = take n (drop 16 pg) in
-    let q : 240 - length body ≡ 240 - n = rw (length-take n (drop 16 pg), length-drop 16 pg, long) (omega arith) in
-    let c : drop 16 pg ≡ body ++ zeroes (240 - length body) = sym (take-append-drop n (drop 16 pg)) ∙ rw (drop-drop n 16 pg, z, q) in
-    let t : drop 2 pg ≡ bytes2 (le2 pg 2) ++ (bytes4 (le4 pg 4) ++ (part 8 8 pg ++ (body ++ zeroes (240 - length body)))) =
-    drop-cut 2 2 pg
-    ∙ ap₂ (λ (x y : List ℕ). x ++ y) (sym (bytes2-le2 pg 2 b (omega arith)))
-    (drop-cut 4 4 pg
-    ∙ ap₂ (λ (x y : List ℕ). x ++ y) (sym (bytes4-le4 pg 4 b (omega arith)))
-    (drop-cut 8 8 pg ∙ ap (λ (x : List ℕ). part 8 8 pg ++ x) c)) in
-    drop-cons pg 0 0 (omega arith)
-    ∙ ap₂ (λ (x : ℕ) (y : List ℕ). x ∷ y) p (drop-cons pg 1 0 (omega arith) ∙ ap (λ (x : List ℕ). getD pg 1 0 ∷ x) t)
-    ∙ rw (joined-rowsOf sz (le2 pg 2) (drop 16 pg), length-rowsOf sz (le2 pg 2) (drop 16 pg))
+    topped-is pg long p b
+    ∙ ap₂ (λ (v : ℕ) (l : List ℕ). topped (letter pg) v (number pg) (spare pg ++ l)) (sym (length-rows sz pg)) (body-of sz pg long z)
+    ∙ made-topped (letter pg) (number pg) (spare pg) (rows sz pg)
 
 pub made-of : (k : Kind) (pg : List ℕ) → shaped k pg ≡ true → Bytes pg → pg ≡ made (k .sign) (number pg) (spare pg) (rows (k .size) pg)
 made-of k pg e b =

@@ -69,6 +69,10 @@ pub back-page : (p : ℕ) (w x : List ℕ) → length x ≡ 256 → putMid (256 
 unfolding putPage
 back-page p w x e = back-put (256 * p) 256 w x e
 
+pub back-kept : (p : ℕ) (w x : List ℕ) → length w ≡ 16384 → p < 64 → length x ≡ length (take (256 * p + 256 - 256 * p) (drop (256 * p) w))
+    → putMid (256 * p) (256 * p + 256 - 256 * p) w x ≡ putPage p x w
+back-kept p w x whole small k = back-page p w x (k ∙ ap length (lent-page p w) ∙ length-page p w whole small)
+
 -- ---- all pages
 
 pub length-pages : (w : List ℕ) → length (pages w) ≡ 64

@@ -34,6 +34,16 @@ module _ {P : List ℕ → Type 0} where
   each-append nil q = q
   each-append (cons h p) q = cons h (each-append p q)
 
+  pub each-take : {rs : List (List ℕ)} (n : ℕ) → Each P rs → Each P (take n rs)
+  each-take zero p = nil
+  each-take (suc n) nil = nil
+  each-take (suc n) (cons h p) = cons h (each-take n p)
+
+  pub each-drop : {rs : List (List ℕ)} (n : ℕ) → Each P rs → Each P (drop n rs)
+  each-drop zero p = p
+  each-drop (suc n) nil = nil
+  each-drop (suc n) (cons h p) = each-drop n p
+
   pub each-at : {rs : List (List ℕ)} (i : ℕ) → Each P rs → i < length rs → P (getD rs i [])
   each-at i nil h = absurd (not-suc-le-zero h)
   each-at zero (cons p ps) h = p
@@ -120,6 +130,10 @@ key-row sz at l h = le4-part at sz l 2 (omega arith)
 pub page-row : (sz at : ℕ) (l : List ℕ) → 8 ≤ sz → toPage (part at sz l) ≡ le2 l (at + 6)
 unfolding toPage
 page-row sz at l h = le2-part at sz l 6 (omega arith)
+
+pub length-rows : (sz : ℕ) (pg : List ℕ) → length (rows sz pg) ≡ count pg
+unfolding rows
+length-rows sz pg = length-rowsOf sz (count pg) (drop 16 pg)
 
 -- row i of a page, where it stands
 pub getD-rows : (sz i : ℕ) (pg : List ℕ) → i < count pg → getD (rows sz pg) i [] ≡ part (16 + sz * i) sz pg

@@ -2,4 +2,5 @@
 pub mod Tree
 pub mod Answer
 pub mod Way
+pub mod Walk
 pub mod Layout

@@ -6,3 +6,6 @@ pub mod Tally
 pub mod Between
 pub mod Sound
 pub mod Chain
+pub mod Onward
+pub mod Listing
+pub mod Into

@@ -103,6 +103,7 @@ module _ (w : List ℕ) (f : InForm w) where
       let g : formed q (page q w) ≡ true = formed-page q w (f .forms) (omega arith) in
       let o : Ordered 8 101 110 30 (page q w) = entries-ordered q (page q w) g hi in
       record {
+        past = omega arith;
         inside = omega arith;
         fits = omega (arith, o .room);
         full = full-count q (page q w) g lo t;
@@ -114,6 +115,7 @@ module _ (w : List ℕ) (f : InForm w) where
       let g : formed q (page q w) ≡ true = formed-page q w (f .forms) (omega arith) in
       let o : Ordered 16 114 99 15 (page q w) = records-ordered q (page q w) g lo in
       record {
+        past = omega arith;
         inside = omega arith;
         fits = omega (arith, o .room);
         full = full-count q (page q w) g (omega arith) t;

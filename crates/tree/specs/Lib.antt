@@ -3,4 +3,5 @@ pub mod Tree
 pub mod Answer
 pub mod Way
 pub mod Walk
+pub mod Reader
 pub mod Layout

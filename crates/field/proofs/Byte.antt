@@ -1,9 +1,9 @@
 -- Lists of bytes: what is made of bytes is of bytes. Assumes nothing.
 use Prim.Native.Nat.{ℕ, zero, suc, _+_, _-_, _/_, _%_, _≤_, _<_}
 use native.Mathlib.Omega.{arith}
-use mathlib.Core.Path.{_≡_, refl, sym, ap, _∙_}
+use mathlib.Core.Path.{_≡_, refl}
 use mathlib.Core.List.{List, [], _∷_, _++_}
-use lib.ListN.{length, take, drop, getD, length-take, List·getD-append, List·getD-eq-default}
+use lib.ListN.{length, take, drop, length-take, List·getD-append, List·getD-eq-default}
 use lib.Seq.{getD-take, getD-drop}
 use Rattle.field.specs.Bytes.{part, put, zeroes, Bytes, bytes2, bytes4}
 use Rattle.field.proofs.Part.{split, getD-past}

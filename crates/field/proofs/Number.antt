@@ -6,7 +6,7 @@ use native.Mathlib.Omega.{arith}
 use mathlib.Core.Path.{_≡_, refl, sym, ap, ap₂, _∙_}
 use mathlib.Core.Logic.{_⊎_}
 use mathlib.Core.List.{List, [], _∷_, _++_, append-assoc, append-nil}
-use lib.ListN.{length, take, drop, getD, set, length-append}
+use lib.ListN.{length, drop, getD, set}
 use lib.Seq.{drop-cons}
 use Rattle.field.specs.Bytes.{part, put, Bytes, le2, le4, bytes2, bytes4}
 use Rattle.field.proofs.Part.{sets-put, getD-part, part-drop, part-add, part-past, part-put-in, part-put-other}
@@ -102,12 +102,14 @@ le4-bytes4 v l h =
 pub le2-put : (i v : ℕ) (l : List ℕ) → v < 65536 → i + 2 ≤ length l → le2 (put i (bytes2 v) l) i ≡ v
 le2-put i v l h k =
     let e : length (bytes2 v) ≡ 2 = length-bytes2 v in
-    ap (le2 (put i (bytes2 v) l)) (sym (add-zero i)) ∙ le2-put-in i 0 (bytes2 v) l (omega arith) (omega arith) ∙ rw (← append-nil (bytes2 v)) (le2-bytes2 v [] h)
+    ap (le2 (put i (bytes2 v) l)) (sym (add-zero i)) ∙ le2-put-in i 0 (bytes2 v) l (omega arith) (omega arith)
+    ∙ rw (← append-nil (bytes2 v)) (le2-bytes2 v [] h)
 
 pub le4-put : (i v : ℕ) (l : List ℕ) → v < 4294967296 → i + 4 ≤ length l → le4 (put i (bytes4 v) l) i ≡ v
 le4-put i v l h k =
     let e : length (bytes4 v) ≡ 4 = length-bytes4 v in
-    ap (le4 (put i (bytes4 v) l)) (sym (add-zero i)) ∙ le4-put-in i 0 (bytes4 v) l (omega arith) (omega arith) ∙ rw (← append-nil (bytes4 v)) (le4-bytes4 v [] h)
+    ap (le4 (put i (bytes4 v) l)) (sym (add-zero i)) ∙ le4-put-in i 0 (bytes4 v) l (omega arith) (omega arith)
+    ∙ rw (← append-nil (bytes4 v)) (le4-bytes4 v [] h)
 
 -- ---- bytes: a number of them is small, and its bytes are those
 

@@ -1,13 +1,13 @@
 -- Laws of a part of a list and of a run written over a list, for every offset and length, once; and of the loops, stores and loans of
 -- a part by which code comes to them. Assumes nothing.
-use Prim.Native.Nat.{ℕ, zero, suc, _+_, _-_, _*_, _≤_, _<_}
+use Prim.Native.Nat.{ℕ, _+_, _-_, _≤_, _<_}
 use native.Mathlib.Nat.{add-assoc, add-zero, add-sub-cancel-left}
 use native.Mathlib.Decide.{decLe}
 use native.Mathlib.Numerals.{add-one}
 use native.Mathlib.Omega.{arith}
 use mathlib.Core.Path.{_≡_, refl, sym, ap, _∙_, subst}
 use mathlib.Core.Logic.{_⊎_, ⊎-elim}
-use mathlib.Core.List.{List, [], _∷_, _++_, append-assoc}
+use mathlib.Core.List.{List, [], _∷_, _++_, append-assoc, append-nil}
 use lib.ListN.{length, take, drop, getD, set, take-append-drop, length-set, length-append, length-take, length-drop, List·getD-append}
 use lib.Seq.{paste, paste-zero, paste-suc, take-all, sets, sets-eq, ext-getD, drop-drop, length-take-le, getD-append-add, getD-take, getD-drop, take-add, take-length, take-append-le, drop-append-le, take-append-add, drop-append-add, take-at, drop-at}
 use borrow.Rule.Slice.PartMut.{putMid}
@@ -207,7 +207,8 @@ put-put o a b l e h =
     (λ j p. getD-put-after o a l j (omega arith) (omega arith) ∙ sym (getD-put-after o b l j (omega arith) p))
 
 -- writes at offsets of the whole, within one part that was written: each is a write of that part
-pub put-in-put : (o i : ℕ) (bs x l : List ℕ) → i + length bs ≤ length x → o + length x ≤ length l → put (o + i) bs (put o x l) ≡ put o (put i bs x) l
+pub put-in-put : (o i : ℕ) (bs x l : List ℕ) → i + length bs ≤ length x → o + length x ≤ length l
+    → put (o + i) bs (put o x l) ≡ put o (put i bs x) l
 put-in-put o i bs x l h k =
     let lx : length (put o x l) ≡ length l = length-put o x l k in
     put-in o (length x) i bs (put o x l) h (omega arith)
@@ -217,6 +218,10 @@ put-in-put o i bs x l h k =
 pub put-front : (a b l : List ℕ) → length a ≡ length b → put 0 b (a ++ l) ≡ b ++ l
 unfolding put
 put-front a b l e = ap (λ (x : List ℕ). b ++ x) (drop-at a l (0 + length b) (omega arith))
+
+-- a write over the whole
+pub put-whole : (b l : List ℕ) → length b ≡ length l → put 0 b l ≡ b
+put-whole b l e = ap (put 0 b) (sym (append-nil l)) ∙ put-front l b [] (sym e) ∙ append-nil b
 
 pub put-past : (a bs l : List ℕ) (k i : ℕ) → length a ≡ k → put (k + i) bs (a ++ l) ≡ a ++ put i bs l
 unfolding put
@@ -243,14 +248,16 @@ pub copy-more! : (d : List ℕ) (at : ℕ) (rs : List ℕ) (i : ℕ) (s : List �
     → set s (at + i) (getD rs i 0) ≡ paste d at rs (i + 1)
 copy-more! d at rs i s e h k = rw (e, add-one) (paste-suc d at rs i 0 (omega arith) k)
 
-pub copy-all! : (d : List ℕ) (at : ℕ) (rs : List ℕ) (i : ℕ) (s : List ℕ) → s ≡ paste d at rs i → i ≤ length rs → length rs ≤ i → s ≡ put at rs d
+pub copy-all! : (d : List ℕ) (at : ℕ) (rs : List ℕ) (i : ℕ) (s : List ℕ) → s ≡ paste d at rs i → i ≤ length rs → length rs ≤ i
+    → s ≡ put at rs d
 unfolding put
 copy-all! d at rs i s e h k =
     let q : i ≡ length rs = omega arith in
     rw (e, q, take-all (length rs) rs (omega arith)) (append-assoc (take at d) rs (drop (at + length rs) d))
 
 -- the same where the bytes copied are the list's own, from an offset no lower: no byte is read after it was written
-pub shift-more! : (d : List ℕ) (at from n : ℕ) (i : ℕ) (s : List ℕ) → s ≡ paste d at (part from n d) i → at ≤ from → from + n ≤ length d → i < n
+pub shift-more! : (d : List ℕ) (at from n : ℕ) (i : ℕ) (s : List ℕ) → s ≡ paste d at (part from n d) i → at ≤ from → from + n ≤ length d
+    → i < n
     → set s (at + i) (getD s (from + i) 0) ≡ paste d at (part from n d) (i + 1)
 unfolding put
 shift-more! d at from n i s e low h k =
@@ -278,6 +285,11 @@ length-set-of! d i v s e = length-set s i v ∙ e
 pub lent-part : (o n : ℕ) (l : List ℕ) → take (o + n - o) (drop o l) ≡ part o n l
 unfolding part
 lent-part o n l = rw (add-sub-cancel-left o n)
+
+-- a part that is lent and copied over the whole of l
+pub copied-part : (o n : ℕ) (s l : List ℕ) → length l ≡ n → o + n ≤ length s → put 0 (take (o + n - o) (drop o s)) l ≡ part o n s
+copied-part o n s l e h =
+    rw (lent-part o n s) (put-whole (part o n s) l (length-part o n s h ∙ sym e))
 
 pub back-put : (o n : ℕ) (l x : List ℕ) → length x ≡ n → putMid o (o + n - o) l x ≡ put o x l
 unfolding put

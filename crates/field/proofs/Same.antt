@@ -1,16 +1,17 @@
 -- Laws of comparing two lists, and of a list that begins with another. Assumes nothing.
-use Prim.Native.Nat.{ℕ, _+_, _≤_}
+use Prim.Native.Nat.{ℕ, _+_, _≤_, _<_}
+use native.Mathlib.Numerals.{add-one}
 use native.Mathlib.Omega.{arith}
 use mathlib.Core.Path.{_≡_, refl, sym, ap, ap₂, _∙_}
 use mathlib.Core.Bool.{Bool, true, false, false≢true}
 use mathlib.Core.List.{List, [], _∷_, _++_}
-use lib.ListN.{length, take, drop, take-append-drop, length-take}
-use lib.Seq.{take-append-seam}
+use lib.ListN.{length, take, drop, getD, drop-of-length-le, take-append-drop, length-take}
+use lib.Seq.{take-append-seam, drop-cons}
 use lib.Dec.{eqb}
-use borrow.Author.Tests.{eqb-true, eq-eqb}
+use borrow.Author.Tests.{eqb-true, eq-eqb, ne-eqb}
 use Rattle.field.specs.Test.{both}
 use Rattle.field.specs.Bytes.{same, starts}
-use Rattle.field.proofs.Test.{both-1, both-2, both-intro}
+use Rattle.field.proofs.Test.{both-1, both-2, both-intro, both-true, both-false}
 
 pub same-eq : (a b : List ℕ) → same a b ≡ true → a ≡ b
 unfolding same
@@ -35,6 +36,29 @@ either false f = refl
 
 pub ne-same : (a b : List ℕ) → (a ≡ b → ⊥) → same a b ≡ false
 ne-same a b f = either (same a b) (λ e. f (same-eq a b e))
+
+-- ---- a loop that compares two lists, for `search`: the ways through it
+
+same-next : (a b : List ℕ) (i : ℕ) → i < length a → i < length b
+    → same (drop i a) (drop i b) ≡ both (eqb (getD a i 0) (getD b i 0)) (same (drop (i + 1) a) (drop (i + 1) b))
+unfolding same
+same-next a b i h k = rw (add-one, drop-cons a i 0 h, drop-cons b i 0 k)
+
+pub same-long! : (a b : List ℕ) → (length a ≡ length b → ⊥) → false ≡ same a b
+same-long! a b f = sym (ne-same a b (λ e. f (ap length e)))
+
+module _ (a b : List ℕ) (i : ℕ) (e : same a b ≡ same (drop i a) (drop i b)) (l : length a ≡ length b) where
+  pub same-end! : length a ≤ i → true ≡ same a b
+  unfolding same
+  same-end! h =
+      let k : length b ≤ i = omega arith in
+      sym (e ∙ rw (drop-of-length-le a h, drop-of-length-le b k))
+
+  pub same-stop! : i < length a → (getD a i 0 ≡ getD b i 0 → ⊥) → false ≡ same a b
+  same-stop! h f = sym (e ∙ same-next a b i h (omega arith) ∙ both-false _ _ (ne-eqb (getD a i 0) (getD b i 0) f))
+
+  pub same-more! : i < length a → getD a i 0 ≡ getD b i 0 → same a b ≡ same (drop (i + 1) a) (drop (i + 1) b)
+  same-more! h f = e ∙ same-next a b i h (omega arith) ∙ both-true _ _ (eq-eqb (getD a i 0) (getD b i 0) f)
 
 -- ---- a list that begins with e
 

@@ -1,16 +1,16 @@
 -- Laws of runs of zeros, and of the loop that tests one. Assumes nothing.
-use Prim.Native.Nat.{ℕ, zero, suc, _+_, _-_, _*_, _≤_, _<_}
+use Prim.Native.Nat.{ℕ, zero, suc, _+_, _-_, _≤_, _<_}
 use native.Mathlib.Nat.{sub-zero, suc-sub-suc, zero-sub}
 use native.Mathlib.Numerals.{add-one}
 use native.Mathlib.Omega.{arith}
 use mathlib.Core.Path.{_≡_, refl, sym, ap, ap₂, _∙_}
-use mathlib.Core.Bool.{Bool, true, false}
+use mathlib.Core.Bool.{true}
 use mathlib.Core.List.{List, [], _∷_, _++_}
-use lib.ListN.{length, take, drop, getD, set, replicate, length-replicate, getD-replicate, replicate-append-replicate, drop-of-length-le}
+use lib.ListN.{length, drop, getD, set, length-replicate, getD-replicate, replicate-append-replicate, drop-of-length-le}
 use lib.Seq.{drop-cons, paste}
 use lib.Dec.{eqb}
 use lib.Bits.{bitOr, bitAnd, or-add-and, and-le-l, and-le-r}
-use borrow.Author.Tests.{eqb-true, eqb-false, eq-eqb, ne-eqb}
+use borrow.Author.Tests.{eqb-true, eq-eqb, ne-eqb}
 use Rattle.field.specs.Test.{both}
 use Rattle.field.specs.Bytes.{put, zeroes, allZero}
 use Rattle.field.proofs.Part.{split, copy-none!, copy-more!, copy-all! }

@@ -1,8 +1,8 @@
 // Little-endian numbers in lent bytes, runs of zeros, copying, and the paper's three counters.
 ghost use mathlib.Core.Path.{_≡_};
-ghost use Prim.Native.Nat.{ℕ, _+_, _*_, _≤_, _<_};
+ghost use Prim.Native.Nat.{_+_, _*_, _≤_, _<_};
 ghost use lib.ListN.{length};
-ghost use Rattle.field.specs.Bytes.{part, put, zeroes, allZero, le2, le4, bytes2, bytes4};
+ghost use Rattle.field.specs.Bytes.{part, put, zeroes, allZero, same, le2, le4, bytes2, bytes4};
 
 // The number of a page, of a log record and of a unit: none may stand where another is meant.
 pub struct PageNo(pub u32);
@@ -72,6 +72,23 @@ pub fn zeros(s: &[u8]) -> bool
         i += 1;
     }
     seen == 0
+}
+
+// Whether two runs of bytes are the same.
+pub fn same_bytes(a: &[u8], b: &[u8]) -> bool
+    ensures { λ r. ⌜ r ≡ same (now (a .entry)) (now (b .entry)) ⌝ }
+{
+    if a.len() != b.len() {
+        return false;
+    }
+    let mut i = 0;
+    while i < a.len() {
+        if a[i] != b[i] {
+            return false;
+        }
+        i += 1;
+    }
+    true
 }
 
 // Writes the bytes of rs over s, from the offset at.

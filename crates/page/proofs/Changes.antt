@@ -1,26 +1,32 @@
--- The writes of each page change make the page that the change is defined to make. Assumes nothing.
+-- The writes of each page change make the page that the change is defined to make, and a change whose tests pass is that page.
+-- Assumes nothing.
 use Prim.Native.Nat.{ℕ, suc, _+_, _-_, _*_, _≤_, _<_}
 use native.Mathlib.Nat.{add-assoc}
 use native.Mathlib.Omega.{arith}
 use mathlib.Core.Path.{_≡_, refl, sym, ap, ap₂, _∙_}
-use mathlib.Core.Logic.{_⊎_, inl, inr}
-use mathlib.Core.Bool.{Bool, true, false}
+use mathlib.Core.Logic.{inr}
+use mathlib.Core.Bool.{true}
+use mathlib.Core.Option.{some}
+use borrow.Author.Tests.{le-leb}
 use mathlib.Core.List.{List, [], _∷_, _++_}
-use lib.ListN.{length, take, drop, getD, set, length-append, length-take, length-drop, length-set}
+use lib.ListN.{length, take, drop, getD, set, length-append, length-drop, length-set}
 use lib.Seq.{take-length, length-take-le, split-at}
 use Rattle.field.specs.Test.{pick}
 use Rattle.field.specs.Bytes.{part, put, zeroes, bytes2, bytes4}
-use Rattle.field.proofs.Test.{pick-or}
+use Rattle.field.proofs.Test.{both-intro, all-nil, all-intro, pick-or, when-true}
+use Rattle.field.proofs.Same.{eq-same}
 use Rattle.field.proofs.Part.{length-part, length-put, put-next}
 use Rattle.field.proofs.Number.{length-bytes2, length-bytes4}
 use Rattle.field.proofs.Zero.{length-zeroes}
-use Rattle.page.specs.Page.{rowsOf, joined, keyOf, toPage, count, spare, rows, entries, records, made, base, leaf, empty, shaped, isBase, isLeaf, isEmpty}
-use Rattle.page.specs.Change.{pointTo, without}
+use Rattle.page.specs.Page.{rowsOf, joined, ascendRecords, keyOf, toPage, count, spare, entries, records, made, base, isBase, isLeaf, isEmpty}
+use Rattle.page.specs.Change.{above, emptied, appended, has, pointTo, without, redirected, removed}
+use Rattle.page.specs.Results.{madeEmpty, madeLonger, madePointing, madeShorter}
 use Rattle.page.proofs.Rows.{each-take, each-drop, each-at, length-rowsOf, length-rows, joined-rowsOf, length-joined}
-use Rattle.page.proofs.Order.{pointTo-at, without-at}
+use Rattle.page.proofs.Order.{found-has, pointTo-at, without-at}
 use Rattle.page.proofs.Written.{topped, body, made-topped, body-of, written, read, body-empty, body-append, body-set, body-cut}
-use Rattle.page.proofs.Made.{Shaped, shaped-facts, Fill, fit-base, fit-leaf}
-use Rattle.page.proofs.Kept.{fill-of, Takes, takes, base-shaped}
+use Rattle.page.proofs.Made.{Shaped, shaped-facts, Fill, fit-base}
+use Rattle.page.proofs.Region.{fill-of, base-shaped}
+use Rattle.page.proofs.Kept.{Takes, takes}
 
 -- a header with the letter c, v rows and the number n, written over a page
 abbrev pub head : (c v n : ℕ) → List ℕ → List ℕ
@@ -29,7 +35,8 @@ head c v n pg = put 4 (bytes4 n) (put 2 (bytes2 v) (put 1 (c ∷ []) pg))
 pub length-head : (c v n : ℕ) (pg : List ℕ) → length pg ≡ 256 → length (head c v n pg) ≡ 256
 length-head c v n pg h =
     let l1 : length (put 1 (c ∷ []) pg) ≡ 256 = length-put 1 (c ∷ []) pg (omega arith) ∙ h in
-    let l2 : length (put 2 (bytes2 v) (put 1 (c ∷ []) pg)) ≡ 256 = length-put 2 (bytes2 v) (put 1 (c ∷ []) pg) (omega (arith, length-bytes2 v)) ∙ l1 in
+    let l2 : length (put 2 (bytes2 v) (put 1 (c ∷ []) pg)) ≡ 256 =
+    length-put 2 (bytes2 v) (put 1 (c ∷ []) pg) (omega (arith, length-bytes2 v)) ∙ l1 in
     length-put 4 (bytes4 n) (put 2 (bytes2 v) (put 1 (c ∷ []) pg)) (omega (arith, length-bytes4 n)) ∙ l2
 
 pub leaf-takes : (pg : List ℕ) → isLeaf pg ≡ true → Takes pg
@@ -37,9 +44,6 @@ leaf-takes pg e = takes pg (inr e)
 
 pub pick-takes : (pg : List ℕ) → pick (isEmpty pg) true (isLeaf pg) ≡ true → Takes pg
 pick-takes pg e = takes pg (pick-or (isEmpty pg) (isLeaf pg) e)
-
-pub base-whole : (pg : List ℕ) → isBase pg ≡ true → length pg ≡ 256
-base-whole pg e = shaped-facts base pg (base-shaped pg e) .whole
 
 pub base-room : (pg : List ℕ) → isBase pg ≡ true → count pg ≤ 30
 base-room pg e = shaped-facts base pg (base-shaped pg e) .room
@@ -50,19 +54,20 @@ become : (c v n : ℕ) (pg : List ℕ) (o : ℕ) (bs : List ℕ) (rs : List (Lis
 become c v n pg o bs rs long mark e f =
     written c v n pg long mark o bs ∙ ap₂ (λ (x : ℕ) (l : List ℕ). topped c x n (spare pg ++ l)) e f ∙ made-topped c n (spare pg) rs
 
-pub emptied-is : (n : ℕ) (pg : List ℕ) → isLeaf pg ≡ true → put 16 (zeroes 240) (head 101 0 n pg) ≡ made (empty .sign) n (spare pg) []
+pub emptied-is : (n : ℕ) (pg : List ℕ) → isLeaf pg ≡ true → put 16 (zeroes 240) (head 101 0 n pg) ≡ madeEmpty n pg
 emptied-is n pg e =
     let t : Takes pg = leaf-takes pg e in
     let room : length (joined (records pg)) ≤ 240 = omega (arith, length-joined 16 (records pg) (t .long), length-rows 16 pg, t .few) in
     become 101 0 n pg 0 (zeroes 240) [] (t .whole) (t .mark) refl (ap (put 0 (zeroes 240)) (t .inside) ∙ body-empty (records pg) room)
 
 pub appended-is : (n k : ℕ) (rs pg : List ℕ) → pick (isEmpty pg) true (isLeaf pg) ≡ true → length rs ≡ 16 * k
-    → put (16 + 16 * count pg) rs (head 108 (count pg + k) n pg) ≡ made (leaf .sign) n (spare pg) (records pg ++ rowsOf 16 k rs)
+    → put (16 + 16 * count pg) rs (head 108 (count pg + k) n pg) ≡ madeLonger n (rowsOf 16 k rs) pg
 appended-is n k rs pg e long =
     let t : Takes pg = pick-takes pg e in
     let lr : length (records pg) ≡ count pg = length-rows 16 pg in
     let lj : length (joined (records pg)) ≡ 16 * count pg = rw (length-joined 16 (records pg) (t .long), lr) in
-    let lk : length (records pg ++ rowsOf 16 k rs) ≡ count pg + k = rw (length-append (records pg) (rowsOf 16 k rs), lr, length-rowsOf 16 k rs) in
+    let lk : length (records pg ++ rowsOf 16 k rs) ≡ count pg + k =
+    rw (length-append (records pg) (rowsOf 16 k rs), lr, length-rowsOf 16 k rs) in
     let jk : joined (rowsOf 16 k rs) ≡ rs = joined-rowsOf 16 k rs ∙ ap (λ (n : ℕ). take n rs) (sym long) ∙ take-length rs in
     become 108 (count pg + k) n pg (16 * count pg) rs (records pg ++ rowsOf 16 k rs) (t .whole) (t .mark) (sym lk)
     (ap₂ (put (16 * count pg)) (sym jk) (t .inside) ∙ body-append (records pg) (rowsOf 16 k rs) (16 * count pg) lj)
@@ -86,7 +91,7 @@ module _ (n i : ℕ) (pg : List ℕ) (e : isBase pg ≡ true) (h : i < count pg)
   inside = body-of 8 pg (facts .whole) (facts .rest)
 
   pub redirected-is : (new : ℕ) → put (16 + (8 * i + 6)) (bytes2 new) (head 98 (count pg) n pg)
-      ≡ made (base .sign) n (spare pg) (pointTo (keyOf (getD (entries pg) i [])) (toPage (getD (entries pg) i [])) new (entries pg))
+      ≡ madePointing n i new pg
   redirected-is new =
       let le : length es ≡ count pg = length-rows 8 pg in
       let p : pointTo (keyOf it) (toPage it) new es ≡ set es i (put 6 (bytes2 new) it) =
@@ -100,7 +105,7 @@ module _ (n i : ℕ) (pg : List ℕ) (e : isBase pg ≡ true) (h : i < count pg)
 
   pub removed-is : put (16 + 8 * i + 8 * (count pg - 1 - i)) (zeroes 8)
       (put (16 + 8 * i) (part (16 + 8 * i + 8) (8 * (count pg - 1 - i)) (head 98 (count pg - 1) n pg)) (head 98 (count pg - 1) n pg))
-      ≡ made (base .sign) n (spare pg) (without (keyOf (getD (entries pg) i [])) (toPage (getD (entries pg) i [])) (entries pg))
+      ≡ madeShorter n i pg
   removed-is =
       let le : length es ≡ count pg = length-rows 8 pg in
       let at : i < length es = omega arith in
@@ -130,3 +135,33 @@ module _ (n i : ℕ) (pg : List ℕ) (e : isBase pg ≡ true) (h : i < count pg)
       ap (λ (y : ℕ). put (16 + 8 * i + y) (zeroes 8) (put (16 + 8 * i) x hd)) (sym lx)
       ∙ put-next (16 + 8 * i) x (zeroes 8) hd (omega (arith, length-zeroes 8)) in
       rw (q, r) (one ∙ become 98 (count pg - 1) n pg (8 * i) (x ++ zeroes 8) (a ++ b) (facts .whole) (facts .mark) lab cut)
+
+-- ---- where a change's tests pass, it is the one that the code makes
+
+pub emptied-at : (n : ℕ) (rs : List (List ℕ)) (pg : List ℕ) → isLeaf pg ≡ true → joined (records pg) ≡ joined rs
+    → emptied n rs pg ≡ some (madeEmpty n pg)
+unfolding emptied
+emptied-at n rs pg e f = when-true _ _ (both-intro _ _ e (eq-same (joined (records pg)) (joined rs) f))
+
+pub appended-at : (n : ℕ) (rs : List (List ℕ)) (pg : List ℕ) → pick (isEmpty pg) true (isLeaf pg) ≡ true
+    → length (records pg) + length rs ≤ 15
+    → ascendRecords (above 0 (records pg)) rs ≡ true → appended n rs pg ≡ some (madeLonger n rs pg)
+unfolding appended
+appended-at n rs pg e h t =
+    when-true _ _ (all-intro _ _ e (all-intro _ _ (le-leb (length (records pg) + length rs) 15 h) (all-intro _ _ t all-nil)))
+
+module _ (n i : ℕ) (pg : List ℕ) (e : isBase pg ≡ true) (h : i < count pg) where
+  entry-there : has (keyOf (getD (entries pg) i [])) (toPage (getD (entries pg) i [])) (entries pg) ≡ true
+  entry-there = found-has _ _ i (entries pg) (omega (arith, length-rows 8 pg)) refl refl
+
+  pub redirected-at : (new : ℕ)
+      → redirected n (keyOf (getD (entries pg) i [])) (toPage (getD (entries pg) i [])) new pg ≡ some (madePointing n i new pg)
+  unfolding redirected
+  redirected-at new = when-true _ _ (both-intro _ _ e entry-there)
+
+  pub removed-at : 2 ≤ count pg
+      → removed n (keyOf (getD (entries pg) i [])) (toPage (getD (entries pg) i [])) pg ≡ some (madeShorter n i pg)
+  unfolding removed
+  removed-at k =
+      let two : 2 ≤ length (entries pg) = omega (arith, length-rows 8 pg) in
+      when-true _ _ (all-intro _ _ e (all-intro _ _ entry-there (all-intro _ _ (le-leb 2 (length (entries pg)) two) all-nil)))

@@ -1,30 +1,29 @@
 -- The four page changes: what each asks of its page, and that it makes a page in form, stamped, with the rows it should have.
 -- Assumes nothing.
-use Prim.Native.Nat.{ℕ, zero, suc, _+_, _-_, _*_, _≤_, _<_}
-use native.Mathlib.Nat.{mul-le-mul-left, le-trans}
+use Prim.Native.Nat.{ℕ, _+_, _≤_, _<_}
+use native.Mathlib.Nat.{le-trans}
 use native.Mathlib.Omega.{arith}
-use mathlib.Core.Path.{_≡_, refl, sym, ap, _∙_}
-use mathlib.Core.Logic.{_⊎_, inl, inr, ⊎-elim}
-use mathlib.Core.Bool.{Bool, true, false}
-use mathlib.Core.List.{List, [], _∷_, _++_}
-use mathlib.Core.Option.{Option, some, none}
-use lib.ListN.{length, take, drop, getD, length-append, length-take, length-drop}
-use lib.Dec.{leb}
+use mathlib.Core.Path.{_≡_, refl, ap, _∙_}
+use mathlib.Core.Logic.{_⊎_, ⊎-elim}
+use mathlib.Core.Bool.{true}
+use mathlib.Core.List.{List, [], _++_}
+use mathlib.Core.Option.{some}
+use lib.ListN.{length, drop, getD, length-append, length-take, length-drop}
 use borrow.Author.Tests.{leb-true}
-use Rattle.field.specs.Test.{both, all, pick, when}
-use Rattle.field.specs.Bytes.{put, same, zeroes, Bytes, bytes2}
+use Rattle.field.specs.Bytes.{zeroes, Bytes, bytes2}
 use Rattle.field.proofs.Test.{both-1, both-2, both-intro, all-head, all-tail, pick-or, when-some}
 use Rattle.field.proofs.Same.{same-eq}
 use Rattle.field.proofs.Zero.{length-zeroes}
-use Rattle.field.proofs.Byte.{bytes-drop, bytes-part, bytes-put, bytes-bytes2, bytes-zeroes}
-use Rattle.page.specs.Page.{Kind, base, leaf, empty, rowsOf, joined, ascend, ascendRecords, pointing, count, number, spare, rows, entries, records, made, shaped, isBase, isLeaf, isEmpty}
+use Rattle.field.proofs.Byte.{bytes-drop, bytes-part, bytes-put, bytes-bytes2}
+use Rattle.page.specs.Page.{Kind, base, leaf, empty, joined, ascend, ascendRecords, pointing, count, number, spare, rows, entries, records, made, shaped, isBase, isLeaf, isEmpty}
 use Rattle.page.specs.Change.{above, emptied, appended, has, pointTo, without, redirected, removed}
-use Rattle.page.proofs.Rows.{Each, nil, cons, Long, each-append, length-rowsOf, length-rows, long-rowsOf, bytes-rowsOf}
+use Rattle.page.proofs.Rows.{Each, nil, Long, each-append, bytes-rowsOf}
 use Rattle.page.proofs.Order.{ascend-append, Found, has-found, without-at, each-without, ascend-without, pointing-without, length-pointTo, each-pointTo, long-pointed, ascend-pointTo, pointing-pointTo}
 use Rattle.page.proofs.Written.{body, body-of}
+use Rattle.page.proofs.Region.{fill-of, base-shaped, base-pointing}
 use Rattle.page.proofs.Made.{Shaped, shaped-facts, Fit, fit-base, fit-leaf, fit-empty, Fill, shaped-made, rows-made, spare-made, number-made, length-made, bytes-made, room-joined}
 
--- ---- the rows of a page in form
+-- ---- a page of bytes has rows of bytes
 
 pub bytes-rows : (sz : ℕ) (pg : List ℕ) → Bytes pg → Each Bytes (rows sz pg)
 unfolding rows
@@ -33,14 +32,6 @@ bytes-rows sz pg b = bytes-rowsOf sz (count pg) (drop 16 pg) (bytes-drop 16 pg b
 pub bytes-spare : (pg : List ℕ) → Bytes pg → Bytes (spare pg)
 unfolding spare
 bytes-spare pg b = bytes-part 8 8 pg b
-
-pub fill-of : (k : Kind) (pg : List ℕ) → Fit k → shaped k pg ≡ true → Fill k (rows (k .size) pg)
-unfolding rows
-fill-of k pg fit e =
-    let f : Shaped k pg = shaped-facts k pg e in
-    let n : length (rowsOf (k .size) (count pg) (drop 16 pg)) ≡ count pg = length-rowsOf (k .size) (count pg) (drop 16 pg) in
-    let r : k .size * count pg ≤ length (drop 16 pg) = rw (length-drop 16 pg, f .whole) (omega (arith, mul-le-mul-left (k .size) (f .room), fit .roomy)) in
-    record { long = long-rowsOf (k .size) (count pg) (drop 16 pg) r; order = f .order; enough = rw n (f .enough); room = rw n (f .room) }
 
 -- ---- a page that a change made
 
@@ -62,6 +53,19 @@ made-changed k n sp rs fit small e f =
       clear = spare-made (k .sign) n sp rs eight ∙ e;
       holds = rows-made (k .sign) n sp rs eight (k .size) (f .long) (omega (arith, f .room, fit .few));
     }
+
+pub changed-empty : (n : ℕ) (rs : List (List ℕ)) (pg : List ℕ) → Changed empty n rs pg → isEmpty pg ≡ true
+unfolding isEmpty
+changed-empty n rs pg c = c .form
+
+pub changed-leaf : (n : ℕ) (rs : List (List ℕ)) (pg : List ℕ) → Changed leaf n rs pg → isLeaf pg ≡ true
+unfolding isLeaf
+changed-leaf n rs pg c = c .form
+
+-- a page of the kind base whose entries point to leaves is a base page
+pub changed-base : (n : ℕ) (es : List (List ℕ)) (pg : List ℕ) → Changed base n es pg → pointing 8 63 es ≡ true → isBase pg ≡ true
+unfolding isBase
+changed-base n es pg c t = both-intro _ _ (c .form) (rw (c .holds) t)
 
 -- ---- made empty
 
@@ -119,7 +123,8 @@ unfolding isEmpty isLeaf
 takes pg t =
     ⊎-elim (λ e. takes-by empty pg fit-empty e refl refl refl (omega arith)) (λ e. takes-by leaf pg fit-leaf e refl refl refl (omega arith)) t
 
-pub appended-kept : (n : ℕ) (rs : List (List ℕ)) (pg pg′ : List ℕ) → appended n rs pg ≡ some pg′ → n < 4294967296 → Each (Long 16) rs → 1 ≤ length rs
+pub appended-kept : (n : ℕ) (rs : List (List ℕ)) (pg pg′ : List ℕ) → appended n rs pg ≡ some pg′ → n < 4294967296 → Each (Long 16) rs
+    → 1 ≤ length rs
     → Changed leaf n (records pg ++ rs) pg′
 appended-kept n rs pg pg′ e small long some-rows =
     let w = appended-facts n rs pg pg′ e in
@@ -152,21 +157,9 @@ removed-facts n key old pg pg′ e =
     let t = all-tail _ _ (w .0) in
     (all-head _ _ (w .0), all-head _ _ t, leb-true 2 (length (entries pg)) (all-head _ _ (all-tail _ _ t)), w .1)
 
-pub base-shaped : (pg : List ℕ) → isBase pg ≡ true → shaped base pg ≡ true
-unfolding isBase
-base-shaped pg e = both-1 _ _ e
-
-pub base-pointing : (pg : List ℕ) → isBase pg ≡ true → pointing 8 63 (entries pg) ≡ true
-unfolding isBase
-base-pointing pg e = both-2 _ _ e
-
--- a page of the kind base whose entries point to leaves is a base page
-pub base-kept : (n : ℕ) (es : List (List ℕ)) (pg : List ℕ) → Changed base n es pg → pointing 8 63 es ≡ true → isBase pg ≡ true
-unfolding isBase
-base-kept n es pg c t = both-intro _ _ (c .form) (rw (c .holds) t)
-
 -- one entry fewer
-pub length-without : (key old : ℕ) (es : List (List ℕ)) → ascend 101 110 0 es ≡ true → has key old es ≡ true → length (without key old es) + 1 ≡ length es
+pub length-without : (key old : ℕ) (es : List (List ℕ)) → ascend 101 110 0 es ≡ true → has key old es ≡ true
+    → length (without key old es) + 1 ≡ length es
 length-without key old es t h =
     let f : Found key old es = has-found key old es h in
     rw (without-at key old 101 110 0 (f .place) es t (f .inside) (f .keyed) (f .to))
@@ -189,7 +182,7 @@ redirected-kept n key old new pg pg′ e small lo hi =
     let c : Changed base n (pointTo key old new (entries pg)) pg′ =
     rw (← (w .2)) (made-changed base n (spare pg) (pointTo key old new (entries pg)) fit-base small (shaped-facts base pg s .gap) f) in (
       c,
-      base-kept n (pointTo key old new (entries pg)) pg′ c
+      changed-base n (pointTo key old new (entries pg)) pg′ c
           (pointing-pointTo key old new 8 63 (entries pg) (g .long) lo hi (omega arith) (base-pointing pg (w .0))),
     )
 
@@ -209,12 +202,13 @@ removed-kept n key old pg pg′ e small =
     } in
     let c : Changed base n (without key old (entries pg)) pg′ =
     rw (← (w .3)) (made-changed base n (spare pg) (without key old (entries pg)) fit-base small (shaped-facts base pg s .gap) f) in
-    (c, base-kept n (without key old (entries pg)) pg′ c (pointing-without key old 8 63 (entries pg) (base-pointing pg (w .0))))
+    (c, changed-base n (without key old (entries pg)) pg′ c (pointing-without key old 8 63 (entries pg) (base-pointing pg (w .0))))
 
 -- ---- a change of a page of bytes is one
 
 pub bytes-emptied : (n : ℕ) (rs : List (List ℕ)) (pg pg′ : List ℕ) → emptied n rs pg ≡ some pg′ → Bytes pg → Bytes pg′
-bytes-emptied n rs pg pg′ e b = rw (← (emptied-facts n rs pg pg′ e .2)) (bytes-made (empty .sign) n (spare pg) [] (omega arith) (bytes-spare pg b) nil)
+bytes-emptied n rs pg pg′ e b =
+    rw (← (emptied-facts n rs pg pg′ e .2)) (bytes-made (empty .sign) n (spare pg) [] (omega arith) (bytes-spare pg b) nil)
 
 pub bytes-appended : (n : ℕ) (rs : List (List ℕ)) (pg pg′ : List ℕ) → appended n rs pg ≡ some pg′ → Bytes pg → Each Bytes rs → Bytes pg′
 bytes-appended n rs pg pg′ e b p =

@@ -5,6 +5,8 @@ pub mod Turns
 pub mod Tests
 pub mod Written
 pub mod Made
+pub mod Region
 pub mod Kept
 pub mod Changes
+pub mod Images
 pub mod Pages

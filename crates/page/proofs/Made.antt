@@ -1,24 +1,21 @@
 -- A page in form is the page made of its letter, number, spare bytes and rows; and a page that is made of rows in order is in form.
 -- Each law over the row size or the kind, once. Assumes nothing.
-use Prim.Native.Nat.{ℕ, zero, suc, _+_, _-_, _*_, _≤_, _<_}
-use native.Mathlib.Nat.{add-zero, mul-zero, mul-le-mul-left, le-trans}
-use native.Mathlib.Numerals.{add-one}
+use Prim.Native.Nat.{ℕ, _+_, _-_, _*_, _≤_, _<_}
+use native.Mathlib.Nat.{mul-le-mul-left}
 use native.Mathlib.Omega.{arith}
 use mathlib.Core.Path.{_≡_, refl, sym, ap, ap₂, _∙_}
-use mathlib.Core.Bool.{Bool, true, false}
-use mathlib.Core.List.{List, [], _∷_, _++_, append-assoc}
-use lib.ListN.{length, take, drop, getD, length-append, length-take, length-drop, take-append-drop}
-use lib.Seq.{drop-drop, drop-cons, drop-at, drop-append-add}
-use lib.Dec.{eqb, leb}
+use mathlib.Core.Bool.{true}
+use mathlib.Core.List.{List, _∷_, _++_}
+use lib.ListN.{length, drop, getD, length-append, length-drop}
+use lib.Seq.{drop-drop, drop-at}
 use borrow.Author.Tests.{eqb-true, leb-true, eq-eqb, le-leb}
-use Rattle.field.specs.Test.{both, all, pick}
-use Rattle.field.specs.Bytes.{part, put, zeroes, allZero, Bytes, le2, le4, bytes2, bytes4}
-use Rattle.field.proofs.Test.{all-head, all-tail, all-nil, all-intro, both-1, both-2, both-intro}
-use Rattle.field.proofs.Part.{length-part, part-drop, part-front, drop-cut, drop-past}
-use Rattle.field.proofs.Number.{length-bytes2, length-bytes4, le2-drop, le4-drop, le2-bytes2, le4-bytes4, bytes2-le2, bytes4-le4}
+use Rattle.field.specs.Bytes.{part, zeroes, allZero, Bytes, bytes2, bytes4}
+use Rattle.field.proofs.Test.{all-head, all-tail, all-nil, all-intro}
+use Rattle.field.proofs.Part.{length-part, part-drop, part-front, drop-past}
+use Rattle.field.proofs.Number.{le2-drop, le4-drop, le2-bytes2, le4-bytes4}
 use Rattle.field.proofs.Zero.{length-zeroes, zeroes-of, all-zeroes}
 use Rattle.field.proofs.Byte.{bytes-cons, bytes-append, bytes-bytes2, bytes-bytes4, bytes-zeroes}
-use Rattle.page.specs.Page.{Kind, kind, root, base, leaf, empty, rowsOf, joined, ascend, letter, count, number, spare, rows, made, shaped}
+use Rattle.page.specs.Page.{Kind, root, base, leaf, empty, joined, ascend, letter, count, number, spare, rows, made, shaped}
 use Rattle.page.proofs.Rows.{Each, Long, length-rows, length-joined, rowsOf-joined, bytes-joined}
 use Rattle.page.proofs.Written.{topped, made-topped, topped-is, body-of}
 
@@ -75,8 +72,10 @@ unfolding made
 bytes-made c n sp rs h b p =
     let z : ℕ = 240 - length (joined rs) in
     let body : Bytes (joined rs ++ zeroes z) = bytes-append (joined rs) (zeroes z) (bytes-joined rs p) (bytes-zeroes z) in
-    let low : Bytes (bytes4 n ++ (sp ++ (joined rs ++ zeroes z))) = bytes-append (bytes4 n) (sp ++ (joined rs ++ zeroes z)) (bytes-bytes4 n) (bytes-append sp (joined rs ++ zeroes z) b body) in
-    let head : Bytes (bytes2 (length rs) ++ (bytes4 n ++ (sp ++ (joined rs ++ zeroes z)))) = bytes-append (bytes2 (length rs)) (bytes4 n ++ (sp ++ (joined rs ++ zeroes z))) (bytes-bytes2 (length rs)) low in
+    let low : Bytes (bytes4 n ++ (sp ++ (joined rs ++ zeroes z))) =
+    bytes-append (bytes4 n) (sp ++ (joined rs ++ zeroes z)) (bytes-bytes4 n) (bytes-append sp (joined rs ++ zeroes z) b body) in
+    let head : Bytes (bytes2 (length rs) ++ (bytes4 n ++ (sp ++ (joined rs ++ zeroes z)))) =
+    bytes-append (bytes2 (length rs)) (bytes4 n ++ (sp ++ (joined rs ++ zeroes z))) (bytes-bytes2 (length rs)) low in
     let big : 112 < 256 = omega arith in
     bytes-cons 112 (c ∷ (bytes2 (length rs) ++ (bytes4 n ++ (sp ++ (joined rs ++ zeroes z))))) big
     (bytes-cons c (bytes2 (length rs) ++ (bytes4 n ++ (sp ++ (joined rs ++ zeroes z)))) h head)
@@ -105,7 +104,8 @@ shaped-facts k pg e =
     let e6 = all-tail _ _ e5 in
     let e7 = all-tail _ _ e6 in
     let long : length pg ≡ 256 = eqb-true (length pg) 256 (all-head _ _ e) in
-    let left : length (drop at pg) ≡ 240 - k .size * count pg = length-drop at pg ∙ (let q : length pg - at ≡ 240 - k .size * count pg = omega arith in q) in
+    let left : length (drop at pg) ≡ 240 - k .size * count pg =
+    length-drop at pg ∙ (let q : length pg - at ≡ 240 - k .size * count pg = omega arith in q) in
     record {
       whole = long;
       mark = eqb-true (getD pg 0 0) 112 (all-head _ _ e1);
@@ -132,7 +132,8 @@ shaped-of k pg f =
 -- ---- a page in form is made of what stands in it
 
 -- 256 bytes that begin with `p`, and hold nothing but zeros behind their rows of sz bytes
-pub made-is : (sz : ℕ) (pg : List ℕ) → length pg ≡ 256 → getD pg 0 0 ≡ 112 → drop (16 + sz * count pg) pg ≡ zeroes (240 - sz * count pg) → Bytes pg
+pub made-is : (sz : ℕ) (pg : List ℕ) → length pg ≡ 256 → getD pg 0 0 ≡ 112 → drop (16 + sz * count pg) pg ≡ zeroes (240 - sz * count pg)
+    → Bytes pg
     → pg ≡ made (letter pg) (number pg) (spare pg) (rows sz pg)
 made-is sz pg long p z b =
     topped-is pg long p b

@@ -1,21 +1,20 @@
 -- Laws of rows in order, and of the entry with a key and a page: it is the only one with its key, so that it is found by its place.
 -- Assumes nothing.
-use Prim.Native.Nat.{ℕ, zero, suc, _+_, _-_, _*_, _≤_, _<_}
+use Prim.Native.Nat.{ℕ, zero, suc, _+_, _≤_, _<_}
 use native.Mathlib.Nat.{not-suc-le-zero}
 use native.Mathlib.Omega.{arith}
-use mathlib.Core.Path.{_≡_, refl, sym, ap, ap₂, _∙_}
+use mathlib.Core.Path.{_≡_, refl, ap, _∙_}
 use mathlib.Core.Bool.{Bool, true, false, false≢true}
 use mathlib.Core.List.{List, [], _∷_, _++_}
 use lib.ListN.{length, take, drop, getD, set}
-use lib.Dec.{eqb, leb}
+use lib.Dec.{leb}
 use borrow.Author.Tests.{eqb-true, leb-true, eq-eqb, ne-eqb, le-leb}
 use mathlib.Core.Logic.{inl, inr}
 use Rattle.field.specs.Test.{both, pick}
-use Rattle.field.specs.Bytes.{put, bytes2, Bytes}
-use Rattle.field.proofs.Test.{both-1, both-2, both-intro, both-false, both-assoc, pick-true, pick-false, pick-either, pick-or}
+use Rattle.field.specs.Bytes.{put, bytes2}
+use Rattle.field.proofs.Test.{both-1, both-2, both-intro, both-false, both-assoc, pick-either, pick-or}
 use Rattle.field.proofs.Part.{length-put, getD-put-before}
 use Rattle.field.proofs.Number.{length-bytes2, le4-put-other, le2-put}
-use Rattle.field.proofs.Byte.{bytes-put, bytes-bytes2}
 use Rattle.page.specs.Page.{keyOf, toPage, ascend, pointing}
 use Rattle.page.specs.Change.{above, isEntry, has, pointTo, without}
 use Rattle.page.proofs.Rows.{Each, nil, cons, Long}
@@ -69,11 +68,28 @@ module _ (a b : ℕ) where
       let f : First a b lo r rs = ascend-facts lo r rs e in
       omega (arith, f .low, key-least (keyOf r + 1) i rs (f .after) (omega arith))
 
-  pub key-less : (lo i j : ℕ) (rs : List (List ℕ)) → ascend a b lo rs ≡ true → i < j → j < length rs → keyOf (getD rs i []) < keyOf (getD rs j [])
+  pub key-less : (lo i j : ℕ) (rs : List (List ℕ)) → ascend a b lo rs ≡ true → i < j → j < length rs
+      → keyOf (getD rs i []) < keyOf (getD rs j [])
   key-less lo i j [] e h k = absurd (not-suc-le-zero k)
   key-less lo i zero (r ∷ rs) e h k = absurd (not-suc-le-zero h)
   key-less lo zero (suc j) (r ∷ rs) e h k = omega (arith, key-least (keyOf r + 1) j rs (ascend-facts lo r rs e .after) (omega arith))
   key-less lo (suc i) (suc j) (r ∷ rs) e h k = key-less (keyOf r + 1) i j rs (ascend-facts lo r rs e .after) (omega arith) (omega arith)
+
+  -- a row in order bears the mark
+  pub mark-at : (lo i : ℕ) (rs : List (List ℕ)) → ascend a b lo rs ≡ true → i < length rs
+      → (getD (getD rs i []) 0 0 ≡ a) × (getD (getD rs i []) 1 0 ≡ b)
+  mark-at lo i [] e h = absurd (not-suc-le-zero h)
+  mark-at lo zero (r ∷ rs) e h = let f : First a b lo r rs = ascend-facts lo r rs e in (f .one, f .two)
+  mark-at lo (suc i) (r ∷ rs) e h = mark-at (keyOf r + 1) i rs (ascend-facts lo r rs e .after) (omega arith)
+
+-- where an entry points
+pub pointing-at : (from to i : ℕ) (es : List (List ℕ)) → pointing from to es ≡ true → i < length es
+    → (from ≤ toPage (getD es i [])) × (toPage (getD es i []) ≤ to)
+unfolding pointing
+pointing-at from to i [] t h = absurd (not-suc-le-zero h)
+pointing-at from to zero (e ∷ es) t h =
+    (leb-true from (toPage e) (both-1 _ _ t), leb-true (toPage e) to (both-1 _ _ (both-2 _ _ t)))
+pointing-at from to (suc i) (e ∷ es) t h = pointing-at from to i es (both-2 _ _ (both-2 _ _ t)) (omega arith)
 
 -- ---- an entry by its key and page
 
@@ -106,11 +122,13 @@ has-found key p (e ∷ es) t = elim (pick-or (isEntry key p e) (has key p es) t)
 ]
 
 module _ (key p : ℕ) where
-  pub found-has : (i : ℕ) (es : List (List ℕ)) → i < length es → keyOf (getD es i []) ≡ key → toPage (getD es i []) ≡ p → has key p es ≡ true
+  pub found-has : (i : ℕ) (es : List (List ℕ)) → i < length es → keyOf (getD es i []) ≡ key → toPage (getD es i []) ≡ p
+      → has key p es ≡ true
   unfolding has pick
   found-has i [] h f g = absurd (not-suc-le-zero h)
   found-has zero (e ∷ es) h f g = rw (entry-here key p e f g)
-  found-has (suc i) (e ∷ es) h f g = pick-either (λ (t : Bool). t ≡ true) (isEntry key p e) true (has key p es) refl (found-has i es (omega arith) f g)
+  found-has (suc i) (e ∷ es) h f g =
+      pick-either (λ (t : Bool). t ≡ true) (isEntry key p e) true (has key p es) refl (found-has i es (omega arith) f g)
 
   module _ (a b : ℕ) where
     -- where all keys are above, the entry is not there
@@ -131,7 +149,8 @@ module _ (key p : ℕ) where
         (unfold pick in refl)
 
     -- the entry at the place i, taken out and pointed elsewhere
-    pub without-at : (lo i : ℕ) (es : List (List ℕ)) → ascend a b lo es ≡ true → i < length es → keyOf (getD es i []) ≡ key → toPage (getD es i []) ≡ p
+    pub without-at : (lo i : ℕ) (es : List (List ℕ)) → ascend a b lo es ≡ true → i < length es → keyOf (getD es i []) ≡ key
+        → toPage (getD es i []) ≡ p
         → without key p es ≡ take i es ++ drop (suc i) es
     unfolding without pick
     without-at lo i [] t h f g = absurd (not-suc-le-zero h)
@@ -143,7 +162,8 @@ module _ (key p : ℕ) where
         let k : keyOf e + 1 ≤ keyOf (getD es i []) = key-least a b (keyOf e + 1) i es q (omega arith) in
         rw (entry-other key p e (λ z. omega arith), without-at (keyOf e + 1) i es q (omega arith) f g)
 
-    pub pointTo-at : (new lo i : ℕ) (es : List (List ℕ)) → ascend a b lo es ≡ true → i < length es → keyOf (getD es i []) ≡ key → toPage (getD es i []) ≡ p
+    pub pointTo-at : (new lo i : ℕ) (es : List (List ℕ)) → ascend a b lo es ≡ true → i < length es → keyOf (getD es i []) ≡ key
+        → toPage (getD es i []) ≡ p
         → pointTo key p new es ≡ set es i (put 6 (bytes2 new) (getD es i []))
     unfolding pointTo pick
     pointTo-at new lo i [] t h f g = absurd (not-suc-le-zero h)
@@ -161,7 +181,8 @@ module _ (key old : ℕ) where
   pub each-without : {P : List ℕ → Type 0} {es : List (List ℕ)} → Each P es → Each P (without key old es)
   unfolding without
   each-without nil = nil
-  each-without {P} (cons {r} {rs} h q) = pick-either (Each P) (isEntry key old r) (without key old rs) (r ∷ without key old rs) (each-without q) (cons h (each-without q))
+  each-without {P} (cons {r} {rs} h q) =
+      pick-either (Each P) (isEntry key old r) (without key old rs) (r ∷ without key old rs) (each-without q) (cons h (each-without q))
 
   pub ascend-without : (a b lo : ℕ) (es : List (List ℕ)) → ascend a b lo es ≡ true → ascend a b lo (without key old es) ≡ true
   unfolding without
@@ -188,7 +209,8 @@ module _ (key old : ℕ) where
     length-pointTo [] = refl
     length-pointTo (e ∷ es) = ap suc (length-pointTo es)
 
-    pub each-pointTo : {P : List ℕ → Type 0} {es : List (List ℕ)} → ((e : List ℕ) → P e → P (put 6 (bytes2 new) e)) → Each P es → Each P (pointTo key old new es)
+    pub each-pointTo : {P : List ℕ → Type 0} {es : List (List ℕ)} → ((e : List ℕ) → P e → P (put 6 (bytes2 new) e)) → Each P es
+        → Each P (pointTo key old new es)
     unfolding pointTo
     each-pointTo f nil = nil
     each-pointTo {P} f (cons {r} {rs} h q) = cons (pick-either P (isEntry key old r) (put 6 (bytes2 new) r) r (f r h) h) (each-pointTo f q)
@@ -213,7 +235,8 @@ module _ (new : ℕ) (e : List ℕ) (long : length e ≡ 8) where
   to-pointed h = le2-put 6 new e h (omega arith)
 
 module _ (key old new : ℕ) where
-  pub ascend-pointTo : (a b lo : ℕ) (es : List (List ℕ)) → Each (Long 8) es → ascend a b lo es ≡ true → ascend a b lo (pointTo key old new es) ≡ true
+  pub ascend-pointTo : (a b lo : ℕ) (es : List (List ℕ)) → Each (Long 8) es → ascend a b lo es ≡ true
+      → ascend a b lo (pointTo key old new es) ≡ true
   unfolding pointTo
   ascend-pointTo a b lo [] nil t = t
   ascend-pointTo a b lo (e ∷ es) (cons h q) t =
@@ -230,7 +253,8 @@ module _ (key old new : ℕ) where
       }))
       (ascend-of a b lo e (pointTo key old new es) (record { one = f .one; two = f .two; low = f .low; after = r }))
 
-  pub pointing-pointTo : (from to : ℕ) (es : List (List ℕ)) → Each (Long 8) es → from ≤ new → new ≤ to → new < 65536 → pointing from to es ≡ true
+  pub pointing-pointTo : (from to : ℕ) (es : List (List ℕ)) → Each (Long 8) es → from ≤ new → new ≤ to → new < 65536
+      → pointing from to es ≡ true
       → pointing from to (pointTo key old new es) ≡ true
   unfolding pointTo pointing
   pointing-pointTo from to [] nil lo hi small t = t

@@ -2,16 +2,14 @@
 -- Assumes nothing.
 use Prim.Native.Nat.{ℕ, zero, suc, _+_, _-_, _*_, _≤_, _<_}
 use native.Mathlib.Nat.{add-zero, zero-add, not-suc-le-zero}
-use native.Mathlib.Numerals.{add-one}
 use native.Mathlib.Omega.{arith}
 use mathlib.Core.Path.{_≡_, refl, sym, ap, _∙_}
 use mathlib.Core.Logic.{_⊎_, inl, inr}
-use mathlib.Core.Bool.{Bool, true, false}
-use mathlib.Core.List.{List, [], _∷_, _++_}
+use mathlib.Core.Bool.{true}
+use mathlib.Core.List.{List, [], _∷_}
 use lib.ListN.{length, take, drop, getD, set, length-set}
 use lib.Seq.{ext-getD, take-all, getD-set-same, getD-set-other}
 use borrow.Rule.Slice.PartMut.{putMid}
-use Rattle.field.specs.Test.{both}
 use Rattle.field.specs.Bytes.{part, put, Bytes}
 use Rattle.field.proofs.Test.{both-1, both-2, both-intro}
 use Rattle.field.proofs.Part.{split, length-part, length-put, part-put-same, part-put-other, put-part, put-put, lent-part, back-put}
@@ -101,7 +99,8 @@ pages-putPage p pg w whole small long =
     let lw : length (pages w) ≡ 64 = length-pages w in
     let lv : length (pages v) ≡ 64 = length-pages v in
     let other : (q : ℕ) → q < 64 → (q ≡ p → ⊥) → getD (pages v) q [] ≡ getD (set (pages w) p pg) q [] =
-    λ q h ne. getD-pages q v h ∙ page-putPage-other p w whole small pg long q h ne ∙ sym (getD-pages q w h) ∙ sym (getD-set-other (pages w) p q pg [] ne) in
+    λ q h ne. getD-pages q v h ∙ page-putPage-other p w whole small pg long q h ne ∙ sym (getD-pages q w h)
+    ∙ sym (getD-set-other (pages w) p q pg [] ne) in
     ext-getD [] (pages v) (set (pages w) p pg) (lv ∙ sym (length-set (pages w) p pg ∙ lw))
     (λ q h. let k : q < 64 = omega arith in
     split q p
@@ -143,7 +142,8 @@ formed-pages w f =
     rw (zero-add, getD-pages p w k) (f p k))
 
 -- a page in form put in its place keeps all pages in form
-pub formed-putPage : (p : ℕ) (pg w : List ℕ) → length w ≡ 16384 → p < 64 → length pg ≡ 256 → formed p pg ≡ true → allFormed 0 (pages w) ≡ true
+pub formed-putPage : (p : ℕ) (pg w : List ℕ) → length w ≡ 16384 → p < 64 → length pg ≡ 256 → formed p pg ≡ true
+    → allFormed 0 (pages w) ≡ true
     → allFormed 0 (pages (putPage p pg w)) ≡ true
 formed-putPage p pg w whole small long t e =
     let other : (q : ℕ) → q < 64 → (q ≡ p → ⊥) → formed q (page q (putPage p pg w)) ≡ true =

@@ -1,23 +1,17 @@
 -- Laws of rows over every row size: taking bytes apart into rows and joining them, one row by its place, and the marks, the order and
 -- the pointers of rows that stand one after the other. Assumes nothing.
-use Prim.Native.Nat.{ℕ, zero, suc, _+_, _-_, _*_, _≤_, _<_}
-use native.Mathlib.Nat.{add-assoc, add-comm, add-zero, zero-add, suc-add, mul-zero, mul-suc, not-suc-le-zero}
-use native.Mathlib.Numerals.{add-one, sub-one}
+use Prim.Native.Nat.{ℕ, zero, suc, _+_, _*_, _≤_, _<_}
+use native.Mathlib.Nat.{add-comm, zero-add, suc-add, mul-zero, mul-suc, not-suc-le-zero}
 use native.Mathlib.Omega.{arith}
-use mathlib.Core.Path.{_≡_, refl, sym, ap, ap₂, _∙_}
-use mathlib.Core.Bool.{Bool, true, false}
+use mathlib.Core.Path.{_≡_, refl, sym, ap, _∙_}
 use mathlib.Core.List.{List, [], _∷_, _++_, append-assoc}
-use lib.ListN.{length, take, drop, getD, length-append, length-take, length-drop}
+use lib.ListN.{length, take, drop, getD, length-append, length-drop}
 use lib.Seq.{take-add, drop-drop, length-take-le, take-at, drop-at, take-append-le, drop-append-le}
-use lib.Dec.{eqb, leb}
-use borrow.Author.Tests.{eqb-true, leb-true, eq-eqb, le-leb}
-use Rattle.field.specs.Test.{both}
-use Rattle.field.specs.Bytes.{part, put, Bytes, le2, le4, bytes2}
-use Rattle.field.proofs.Test.{both-1, both-2, both-intro, both-assoc}
-use Rattle.field.proofs.Part.{part-drop}
-use Rattle.field.proofs.Number.{le2-part, le4-part, length-bytes2}
+use Rattle.field.specs.Bytes.{part, Bytes, le2, le4}
+use Rattle.field.proofs.Part.{part-part, part-drop}
+use Rattle.field.proofs.Number.{le2-part, le4-part}
 use Rattle.field.proofs.Byte.{bytes-nil, bytes-append, bytes-take, bytes-drop}
-use Rattle.page.specs.Page.{rowsOf, joined, keyOf, toPage, count, rows}
+use Rattle.page.specs.Page.{rowsOf, joined, keyOf, toPage, valueOf, count, rows}
 
 -- ---- a property of each row
 
@@ -49,6 +43,10 @@ module _ {P : List ℕ → Type 0} where
   each-at zero (cons p ps) h = p
   each-at (suc i) (cons p ps) h = each-at i ps (omega arith)
 
+  pub each-all : (rs : List (List ℕ)) → ((i : ℕ) → i < length rs → P (getD rs i [])) → Each P rs
+  each-all [] f = nil
+  each-all (r ∷ rs) f = cons (f 0 (omega arith)) (each-all rs (λ i h. f (suc i) (omega arith)))
+
 -- ---- rows of bytes, bytes of rows
 
 pub length-rowsOf : (sz n : ℕ) (l : List ℕ) → length (rowsOf sz n l) ≡ n
@@ -69,7 +67,8 @@ joined-append (r ∷ rs) b = ap (λ (x : List ℕ). r ++ x) (joined-append rs b)
 pub length-joined : (sz : ℕ) (rs : List (List ℕ)) → Each (Long sz) rs → length (joined rs) ≡ sz * length rs
 unfolding joined
 length-joined sz [] nil = sym (mul-zero sz)
-length-joined sz (r ∷ rs) (cons h p) = rw (length-append r (joined rs), length-joined sz rs p, h, mul-suc sz (length rs)) (add-comm sz (sz * length rs))
+length-joined sz (r ∷ rs) (cons h p) =
+    rw (length-append r (joined rs), length-joined sz rs p, h, mul-suc sz (length rs)) (add-comm sz (sz * length rs))
 
 -- rows that were joined are found again, whatever follows them
 pub rowsOf-joined : (sz : ℕ) (rs : List (List ℕ)) (l : List ℕ) → Each (Long sz) rs → rowsOf sz (length rs) (joined rs ++ l) ≡ rs
@@ -145,3 +144,7 @@ key-at sz i pg h k = sym (ap keyOf (getD-rows sz i pg k) ∙ key-row sz (16 + sz
 
 pub page-at : (i : ℕ) (pg : List ℕ) → i < count pg → le2 pg (16 + 8 * i + 6) ≡ toPage (getD (rows 8 pg) i [])
 page-at i pg k = sym (ap toPage (getD-rows 8 i pg k) ∙ page-row 8 (16 + 8 * i) pg (omega arith))
+
+pub value-at : (i : ℕ) (pg : List ℕ) → i < count pg → 16 + 16 * i + 16 ≤ length pg → valueOf (getD (rows 16 pg) i []) ≡ part (16 + 16 * i + 6) 10 pg
+unfolding valueOf
+value-at i pg h k = ap (part 6 10) (getD-rows 16 i pg h) ∙ part-part 6 10 (16 + 16 * i) 16 pg (omega arith) k

@@ -6,13 +6,16 @@ use mathlib.Core.Path.{_≡_, refl, sym, ap, _∙_}
 use mathlib.Core.Bool.{Bool, true, false, not}
 use mathlib.Core.List.{List, [], _∷_}
 use lib.ListN.{length, take, drop, getD}
-use lib.Dec.{eqb, leb}
+use lib.Dec.{leb}
 use borrow.Author.Tests.{eq-eqb, ne-eqb, le-leb, lt-leb, not-true, not-false}
 use borrow.Rule.Slice.PartAt.{part-to-end}
 use Rattle.field.specs.Test.{both, all, pick}
 use Rattle.field.specs.Bytes.{part, allZero, le2}
 use Rattle.field.proofs.Test.{both-end, both-true, both-false}
 use Rattle.page.specs.Page.{Kind, kind, rowsOf, ascend, pointing, letter, count, spare, rows, shaped, isRoot, isBase, isLeaf, isEmpty, formed}
+use Rattle.page.specs.Pages.{page, pages, allFormed}
+use Rattle.page.proofs.Turns.{rows-next}
+use Rattle.page.proofs.Pages.{lent-page}
 use Rattle.page.proofs.Made.{shaped-facts}
 
 module _ (sg sz a b least most : ℕ) (l : List ℕ) where
@@ -79,7 +82,8 @@ module _ (k : Kind) (l : List ℕ) (z : Bool) (e : z ≡ shaped k l) where
       pub point-room : k .most ≤ 30 → 16 + 8 * n ≤ length l
       point-room m = omega (arith, point-whole, shaped-facts k l (sym e ∙ not-false z h) .room)
 
-      pub point-rest! : (from to : ℕ) (x : Bool) → x ≡ pointing from to (rowsOf 8 n (drop 16 l)) → x ≡ both (shaped k l) (pointing from to (rows 8 l))
+      pub point-rest! : (from to : ℕ) (x : Bool) → x ≡ pointing from to (rowsOf 8 n (drop 16 l))
+          → x ≡ both (shaped k l) (pointing from to (rows 8 l))
       unfolding rows
       point-rest! from to x g = sym (both-true _ _ (sym e ∙ not-false z h) ∙ rw (← f) (sym g))
 
@@ -103,3 +107,33 @@ module _ (p : ℕ) (l : List ℕ) where
       pub formed-leaf! : 7 < p → x ≡ isLeaf l → x ≡ formed p l
       unfolding formed pick
       formed-leaf! k f = f ∙ rw (ne-eqb p 0 ne, ← e, h, lt-leb p 7 k)
+
+-- ---- all pages, one after the other: those from page p on
+
+pub formed-start : (w : List ℕ) → allFormed 0 (pages w) ≡ allFormed 0 (rowsOf 256 (64 - 0) (drop (256 * 0) w))
+unfolding pages
+formed-start w = refl
+
+formed-next : (p : ℕ) (w : List ℕ) → p < 64
+    → allFormed p (rowsOf 256 (64 - p) (drop (256 * p) w))
+    ≡ both (formed p (page p w)) (allFormed (p + 1) (rowsOf 256 (64 - (p + 1)) (drop (256 * (p + 1)) w)))
+unfolding allFormed page
+formed-next p w h =
+    let n : 64 - p - 1 ≡ 64 - (p + 1) = omega arith in
+    let o : 256 * p + 256 ≡ 256 * (p + 1) = omega arith in
+    rw (rows-next 256 (64 - p) (256 * p) w (omega arith), n, o)
+
+module _ (p : ℕ) (w : List ℕ) (e : allFormed 0 (pages w) ≡ allFormed p (rowsOf 256 (64 - p) (drop (256 * p) w))) where
+  pub formed-end! : p ≤ 64 → 64 ≤ p → true ≡ allFormed 0 (pages w)
+  unfolding allFormed rowsOf
+  formed-end! h k = let q : p ≡ 64 = omega arith in sym (e ∙ rw q)
+
+  module _ (z : Bool) (f : z ≡ formed p (take (256 * p + 256 - 256 * p) (drop (256 * p) w))) (h : p < 64) where
+    lent : formed p (page p w) ≡ z
+    lent = sym (f ∙ ap (formed p) (lent-page p w))
+
+    pub formed-stop! : not z ≡ true → false ≡ allFormed 0 (pages w)
+    formed-stop! g = sym (e ∙ formed-next p w h ∙ both-false _ _ (lent ∙ not-true z g))
+
+    pub formed-more! : not z ≡ false → allFormed 0 (pages w) ≡ allFormed (p + 1) (rowsOf 256 (64 - (p + 1)) (drop (256 * (p + 1)) w))
+    formed-more! g = e ∙ formed-next p w h ∙ both-true _ _ (lent ∙ not-false z g)

@@ -4,10 +4,10 @@ use Prim.Native.Nat.{ℕ, zero, suc, _+_, _-_, _*_, _≤_, _<_}
 use native.Mathlib.Nat.{add-zero, not-suc-le-zero}
 use native.Mathlib.Numerals.{sub-one}
 use native.Mathlib.Omega.{arith}
-use mathlib.Core.Path.{_≡_, refl, sym, ap, _∙_}
-use mathlib.Core.Bool.{Bool, true, false}
+use mathlib.Core.Path.{_≡_, refl, sym, _∙_}
+use mathlib.Core.Bool.{true, false}
 use mathlib.Core.List.{List, [], _∷_}
-use lib.ListN.{length, take, drop, getD}
+use lib.ListN.{drop, getD}
 use lib.Seq.{drop-drop}
 use lib.Dec.{eqb, leb}
 use borrow.Author.Tests.{eq-eqb, ne-eqb, le-leb, lt-leb}
@@ -15,7 +15,7 @@ use Rattle.field.specs.Test.{both}
 use Rattle.field.specs.Bytes.{part, le2, le4}
 use Rattle.field.proofs.Test.{both-true, both-false}
 use Rattle.field.proofs.Part.{getD-part}
-use Rattle.page.specs.Page.{rowsOf, keyOf, toPage, ascend, pointing}
+use Rattle.page.specs.Page.{rowsOf, ascend, pointing}
 use Rattle.page.proofs.Rows.{key-row, page-row}
 
 -- the rows from an offset are the row there, and those from behind it

@@ -11,7 +11,7 @@ use Rattle.field.specs.Bytes.{part, put, zeroes, Bytes, le2, le4, bytes2, bytes
 use Rattle.field.proofs.Part.{length-part, length-put, drop-cut, part-past, part-front, put-next, put-past, put-front, put-in}
 use Rattle.field.proofs.Number.{length-bytes2, length-bytes4, bytes2-le2, bytes4-le4}
 use Rattle.field.proofs.Zero.{length-zeroes, drop-zeroes, zeroes-append}
-use Rattle.page.specs.Page.{rowsOf, joined, letter, count, number, spare, rows, made}
+use Rattle.page.specs.Page.{joined, letter, count, number, spare, rows, made}
 use Rattle.page.proofs.Rows.{Each, nil, cons, Long, each-at, joined-rowsOf, joined-append, length-joined, rowsOf-joined, getD-rowsOf}
 
 -- a page from its letter, count and number on
@@ -29,7 +29,8 @@ made-topped c n sp rs = refl
 -- ---- a page taken apart
 
 -- a page of bytes is its header, spare bytes and body
-pub topped-is : (pg : List ℕ) → length pg ≡ 256 → getD pg 0 0 ≡ 112 → Bytes pg → pg ≡ topped (letter pg) (count pg) (number pg) (spare pg ++ drop 16 pg)
+pub topped-is : (pg : List ℕ) → length pg ≡ 256 → getD pg 0 0 ≡ 112 → Bytes pg
+    → pg ≡ topped (letter pg) (count pg) (number pg) (spare pg ++ drop 16 pg)
 unfolding topped letter count number spare
 topped-is pg long p b =
     let t : drop 2 pg ≡ bytes2 (le2 pg 2) ++ (bytes4 (le4 pg 4) ++ (part 8 8 pg ++ drop 16 pg)) =
@@ -40,7 +41,8 @@ topped-is pg long p b =
     ∙ ap₂ (λ (x : ℕ) (y : List ℕ). x ∷ y) p (drop-cons pg 1 0 (omega arith) ∙ ap (λ (x : List ℕ). getD pg 1 0 ∷ x) t)
 
 -- a body with zeros behind its rows of sz bytes is made of them
-pub body-of : (sz : ℕ) (pg : List ℕ) → length pg ≡ 256 → drop (16 + sz * count pg) pg ≡ zeroes (240 - sz * count pg) → drop 16 pg ≡ body (rows sz pg)
+pub body-of : (sz : ℕ) (pg : List ℕ) → length pg ≡ 256 → drop (16 + sz * count pg) pg ≡ zeroes (240 - sz * count pg)
+    → drop 16 pg ≡ body (rows sz pg)
 unfolding body rows
 body-of sz pg long z =
     let n : ℕ = sz * count pg in
@@ -48,13 +50,36 @@ body-of sz pg long z =
     let q : 240 - length l ≡ 240 - n = rw (length-take n (drop 16 pg), length-drop 16 pg, long) (omega arith) in
     sym (take-append-drop n (drop 16 pg)) ∙ rw (drop-drop n 16 pg, z, joined-rowsOf sz (count pg) (drop 16 pg), q)
 
+-- ---- a run written in the body, and one read from it
+
+module _ (c v n : ℕ) where
+  top : List ℕ
+  top = 112 ∷ c ∷ (bytes2 v ++ bytes4 n)
+
+  pub topped-put : (o : ℕ) (sp bs l : List ℕ) → length sp ≡ 8 → put (16 + o) bs (topped c v n (sp ++ l)) ≡ topped c v n (sp ++ put o bs l)
+  unfolding topped bytes2 bytes4 top
+  topped-put o sp bs l eight =
+      let e : 16 + o ≡ 8 + (8 + o) = omega arith in
+      rw e (put-past top bs (sp ++ l) 8 (8 + o) refl ∙ ap (λ (x : List ℕ). top ++ x) (put-past sp bs l 8 o eight))
+
+  pub topped-part : (o m : ℕ) (sp l : List ℕ) → length sp ≡ 8 → part (16 + o) m (topped c v n (sp ++ l)) ≡ part o m l
+  unfolding topped bytes2 bytes4 top
+  topped-part o m sp l eight =
+      let e : 16 + o ≡ 8 + (8 + o) = omega arith in
+      rw e (part-past top (sp ++ l) 8 (8 + o) m refl ∙ part-past sp l 8 o m eight)
+
+  pub topped-count : (u : ℕ) (l : List ℕ) → put 2 (bytes2 u) (topped c v n l) ≡ topped c u n l
+  unfolding put topped bytes2 bytes4
+  topped-count u l = refl
+
 -- ---- the header
 
 put-top : (c v n : ℕ) (pg : List ℕ) → take 1 pg ≡ 112 ∷ [] → put 1 (((c ∷ []) ++ bytes2 v) ++ bytes4 n) pg ≡ topped c v n (drop 8 pg)
 unfolding put topped bytes2 bytes4
 put-top c v n pg t = rw t
 
-put-bytes4 : (c v n : ℕ) (pg : List ℕ) → length pg ≡ 256 → put 4 (bytes4 n) (put 1 ((c ∷ []) ++ bytes2 v) pg) ≡ put 1 (((c ∷ []) ++ bytes2 v) ++ bytes4 n) pg
+put-bytes4 : (c v n : ℕ) (pg : List ℕ) → length pg ≡ 256
+    → put 4 (bytes4 n) (put 1 ((c ∷ []) ++ bytes2 v) pg) ≡ put 1 (((c ∷ []) ++ bytes2 v) ++ bytes4 n) pg
 unfolding bytes2
 put-bytes4 c v n pg long = put-next 1 ((c ∷ []) ++ bytes2 v) (bytes4 n) pg (omega (arith, length-bytes4 n))
 
@@ -62,29 +87,23 @@ module _ (c v n : ℕ) (pg : List ℕ) (long : length pg ≡ 256) (mark : getD p
   pub headed : put 4 (bytes4 n) (put 2 (bytes2 v) (put 1 (c ∷ []) pg)) ≡ topped c v n (spare pg ++ drop 16 pg)
   unfolding spare
   headed =
-      let e : put 2 (bytes2 v) (put 1 (c ∷ []) pg) ≡ put 1 ((c ∷ []) ++ bytes2 v) pg = put-next 1 (c ∷ []) (bytes2 v) pg (omega (arith, length-bytes2 v)) in
+      let e : put 2 (bytes2 v) (put 1 (c ∷ []) pg) ≡ put 1 ((c ∷ []) ++ bytes2 v) pg =
+      put-next 1 (c ∷ []) (bytes2 v) pg (omega (arith, length-bytes2 v)) in
       let t : take 1 pg ≡ 112 ∷ [] = take-suc pg 0 0 (omega arith) ∙ ap (λ (x : ℕ). x ∷ []) mark in
       rw e (put-bytes4 c v n pg long ∙ put-top c v n pg t ∙ ap (topped c v n) (drop-cut 8 8 pg))
+
+  eight : length (spare pg) ≡ 8
+  unfolding spare
+  eight = length-part 8 8 pg (omega arith)
 
   -- and a run written in the body
   pub written : (o : ℕ) (bs : List ℕ) → put (16 + o) bs (put 4 (bytes4 n) (put 2 (bytes2 v) (put 1 (c ∷ []) pg)))
       ≡ topped c v n (spare pg ++ put o bs (drop 16 pg))
-  unfolding topped bytes2 bytes4
-  written o bs =
-      let e : 16 + o ≡ 8 + (8 + o) = omega arith in
-      let eight : length (spare pg) ≡ 8 = unfold spare in length-part 8 8 pg (omega arith) in
-      let top : List ℕ = 112 ∷ c ∷ (bytes2 v ++ bytes4 n) in
-      rw (headed, e)
-      (put-past top bs (spare pg ++ drop 16 pg) 8 (8 + o) refl ∙ ap (λ (x : List ℕ). top ++ x) (put-past (spare pg) bs (drop 16 pg) 8 o eight))
+  written o bs = rw headed (topped-put c v n o (spare pg) bs (drop 16 pg) eight)
 
   -- and a run read from the body
   pub read : (o m : ℕ) → part (16 + o) m (put 4 (bytes4 n) (put 2 (bytes2 v) (put 1 (c ∷ []) pg))) ≡ part o m (drop 16 pg)
-  unfolding topped bytes2 bytes4
-  read o m =
-      let e : 16 + o ≡ 8 + (8 + o) = omega arith in
-      let eight : length (spare pg) ≡ 8 = unfold spare in length-part 8 8 pg (omega arith) in
-      let top : List ℕ = 112 ∷ c ∷ (bytes2 v ++ bytes4 n) in
-      rw (headed, e) (part-past top (spare pg ++ drop 16 pg) 8 (8 + o) m refl ∙ part-past (spare pg) (drop 16 pg) 8 o m eight)
+  read o m = rw headed (topped-part c v n o m (spare pg) (drop 16 pg) eight)
 
 -- ---- the body
 
@@ -129,7 +148,8 @@ each-set zero r (cons k p) h = cons h p
 each-set (suc i) r (cons k p) h = cons k (each-set i r p h)
 
 -- a run written within a row
-pub body-set : (sz i o : ℕ) (bs : List ℕ) (rs : List (List ℕ)) → Each (Long sz) rs → i < length rs → o + length bs ≤ sz → sz * length rs ≤ 240
+pub body-set : (sz i o : ℕ) (bs : List ℕ) (rs : List (List ℕ)) → Each (Long sz) rs → i < length rs → o + length bs ≤ sz
+    → sz * length rs ≤ 240
     → put (sz * i + o) bs (body rs) ≡ body (set rs i (put o bs (getD rs i [])))
 unfolding body
 body-set sz i o bs rs p h k room =
@@ -165,7 +185,8 @@ body-both sz o m z a b la lb q =
     (sym (append-assoc (joined a) (joined b) (zeroes (240 - (o + m)))))
 
 -- the rows behind a row moved over it, and zeros after them
-pub body-cut : (sz o m : ℕ) (r : List ℕ) (a b : List (List ℕ)) → length (joined a) ≡ o → length r ≡ sz → length (joined b) ≡ m → o + sz + m ≤ 240
+pub body-cut : (sz o m : ℕ) (r : List ℕ) (a b : List (List ℕ)) → length (joined a) ≡ o → length r ≡ sz → length (joined b) ≡ m
+    → o + sz + m ≤ 240
     → put o (part (o + sz) m (body (a ++ (r ∷ b))) ++ zeroes sz) (body (a ++ (r ∷ b))) ≡ body (a ++ b)
 body-cut sz o m r a b la lr lb room =
     let ja : List ℕ = joined a in
@@ -177,7 +198,8 @@ body-cut sz o m r a b la lr lb room =
     rw (e, append-assoc r jb (zeroes z), part-past ja (r ++ (jb ++ zeroes z)) o (sz + 0) m la, part-past r (jb ++ zeroes z) sz 0 m lr)
     (part-front jb (zeroes z) m lb) in
     let q : sz + z ≡ 240 - (o + m) = omega arith in
-    let size : length (r ++ jb) ≡ length (jb ++ zeroes sz) = rw (length-append r jb, length-append jb (zeroes sz), length-zeroes sz) (omega arith) in
+    let size : length (r ++ jb) ≡ length (jb ++ zeroes sz) =
+    rw (length-append r jb, length-append jb (zeroes sz), length-zeroes sz) (omega arith) in
     let over : put o (jb ++ zeroes sz) (ja ++ ((r ++ jb) ++ zeroes z)) ≡ ja ++ ((jb ++ zeroes sz) ++ zeroes z) =
     ap (λ (i : ℕ). put i (jb ++ zeroes sz) (ja ++ ((r ++ jb) ++ zeroes z))) (sym (add-zero o))
     ∙ put-past ja (jb ++ zeroes sz) ((r ++ jb) ++ zeroes z) o 0 la

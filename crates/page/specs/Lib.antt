@@ -1,4 +1,5 @@
 -- The form of a page, what a log record does to one, and 64 of them side by side.
 pub mod Page
 pub mod Change
+pub mod Results
 pub mod Pages

@@ -1,13 +1,13 @@
 // What a log record does to a page of 256 bytes: each change stamps it with the record's number and keeps its spare bytes.
 ghost use mathlib.Core.Path.{_≡_};
 ghost use mathlib.Core.Bool.{true};
-ghost use mathlib.Core.List.{[], _∷_, _++_};
+ghost use mathlib.Core.List.{[], _∷_};
 ghost use Prim.Native.Nat.{_+_, _*_, _≤_, _<_};
-ghost use lib.ListN.{length, getD};
+ghost use lib.ListN.{length};
 ghost use Rattle.field.specs.Test.{pick};
 ghost use Rattle.field.specs.Bytes.{put, bytes2, bytes4};
-ghost use Rattle.page.specs.Page.{keyOf, toPage, count, spare, rowsOf, entries, records, made, base, leaf, empty, isBase, isLeaf, isEmpty};
-ghost use Rattle.page.specs.Change.{pointTo, without};
+ghost use Rattle.page.specs.Page.{count, rowsOf, isBase, isLeaf, isEmpty};
+ghost use Rattle.page.specs.Results.{madeEmpty, madeLonger, madePointing, madeShorter};
 use crate::view;
 use field::LogNo;
 use field::PageNo;
@@ -33,7 +33,7 @@ fn set_head(pg: &mut [u8], sign: u8, rows: u16, n: LogNo)
 // Makes a leaf page empty.
 pub fn make_empty(pg: &mut [u8], n: LogNo)
     requires { ⌜ isLeaf (now pg) ≡ true ⌝ }
-    ensures { λ _. ⌜ now (pg .exit) ≡ made (empty .sign) (n .0) (spare (now (pg .entry))) [] ⌝ }
+    ensures { λ _. ⌜ now (pg .exit) ≡ madeEmpty (n .0) (now (pg .entry)) ⌝ }
 {
     set_head(pg, b'e', 0, n);
     field::clear(pg, 16, 240);
@@ -43,7 +43,7 @@ pub fn make_empty(pg: &mut [u8], n: LogNo)
 pub fn append(pg: &mut [u8], rs: &[u8], k: u16, n: LogNo)
     requires { ⌜ pick (isEmpty (now pg)) true (isLeaf (now pg)) ≡ true ⌝ }
     requires { ⌜ (length (now rs) ≡ 16 * k) × (count (now pg) + k ≤ 15) ⌝ }
-    ensures { λ _. ⌜ now (pg .exit) ≡ made (leaf .sign) (n .0) (spare (now (pg .entry))) (records (now (pg .entry)) ++ rowsOf 16 k (now (rs .entry))) ⌝ }
+    ensures { λ _. ⌜ now (pg .exit) ≡ madeLonger (n .0) (rowsOf 16 k (now (rs .entry))) (now (pg .entry)) ⌝ }
 {
     let old = view::count(pg);
     set_head(pg, b'l', old + k, n);
@@ -53,7 +53,7 @@ pub fn append(pg: &mut [u8], rs: &[u8], k: u16, n: LogNo)
 // Points entry i of a base page to another leaf page.
 pub fn redirect(pg: &mut [u8], i: usize, new: PageNo, n: LogNo)
     requires { ⌜ (isBase (now pg) ≡ true) × (i < count (now pg)) × (new .0 < 64) ⌝ }
-    ensures { λ _. ⌜ now (pg .exit) ≡ made (base .sign) (n .0) (spare (now (pg .entry))) (pointTo (keyOf (getD (entries (now (pg .entry))) i [])) (toPage (getD (entries (now (pg .entry))) i [])) (new .0) (entries (now (pg .entry)))) ⌝ }
+    ensures { λ _. ⌜ now (pg .exit) ≡ madePointing (n .0) i (new .0) (now (pg .entry)) ⌝ }
 {
     let rows = view::count(pg);
     set_head(pg, b'b', rows, n);
@@ -63,7 +63,7 @@ pub fn redirect(pg: &mut [u8], i: usize, new: PageNo, n: LogNo)
 // Removes entry i of a base page that has another.
 pub fn remove(pg: &mut [u8], i: usize, n: LogNo)
     requires { ⌜ (isBase (now pg) ≡ true) × (i < count (now pg)) × (2 ≤ count (now pg)) ⌝ }
-    ensures { λ _. ⌜ now (pg .exit) ≡ made (base .sign) (n .0) (spare (now (pg .entry))) (without (keyOf (getD (entries (now (pg .entry))) i [])) (toPage (getD (entries (now (pg .entry))) i [])) (entries (now (pg .entry)))) ⌝ }
+    ensures { λ _. ⌜ now (pg .exit) ≡ madeShorter (n .0) i (now (pg .entry)) ⌝ }
 {
     let rows = view::count(pg);
     let at = 16 + 8 * i;

@@ -4,16 +4,17 @@ ghost use Prim.Native.Nat.{_+_, _*_, _≤_, _<_};
 ghost use lib.ListN.{length, drop};
 ghost use Rattle.field.specs.Test.{both};
 ghost use Rattle.page.specs.Page.{kind, rowsOf, entries, ascend, pointing, shaped, isRoot, isBase, isLeaf, isEmpty, formed};
+ghost use Rattle.page.specs.Pages.{pages, allFormed};
 use crate::view;
 
 // A kind of page: its letter, a row's size and mark, and how many rows it has at least and at most.
-pub struct Kind {
-    pub sign: u8,
-    pub size: usize,
-    pub first: u8,
-    pub second: u8,
-    pub least: u16,
-    pub most: u16,
+struct Kind {
+    sign: u8,
+    size: usize,
+    first: u8,
+    second: u8,
+    least: u16,
+    most: u16,
 }
 
 // Whether n rows of sz bytes from the body's start bear the mark a b, with keys that ascend.
@@ -181,4 +182,20 @@ pub fn formed(p: usize, pg: &[u8]) -> bool
         return is_base(pg);
     }
     is_leaf(pg)
+}
+
+// Whether all 64 pages are in form, each in its place.
+pub fn all_formed(w: &[u8]) -> bool
+    requires { ⌜ length (now w) ≡ 16384 ⌝ }
+    ensures { λ r. ⌜ r ≡ allFormed 0 (pages (now (w .entry))) ⌝ }
+{
+    let mut p = 0;
+    while p < 64 {
+        let at = 256 * p;
+        if !formed(p, &w[at..at + 256]) {
+            return false;
+        }
+        p += 1;
+    }
+    true
 }

@@ -1,14 +1,13 @@
 // The page changes on page p of 64 pages side by side: the page is lent as a part of the whole.
 ghost use mathlib.Core.Path.{_≡_};
 ghost use mathlib.Core.Bool.{true};
-ghost use mathlib.Core.List.{[], _++_};
 ghost use Prim.Native.Nat.{_+_, _*_, _≤_, _<_};
-ghost use lib.ListN.{length, getD};
+ghost use lib.ListN.{length};
 ghost use Rattle.field.specs.Test.{pick};
 ghost use Rattle.field.specs.Bytes.{put, bytes4};
-ghost use Rattle.page.specs.Page.{keyOf, toPage, count, spare, rowsOf, entries, records, made, base, leaf, empty, isBase, isLeaf, isEmpty};
-ghost use Rattle.page.specs.Change.{pointTo, without};
+ghost use Rattle.page.specs.Page.{count, rowsOf, isBase, isLeaf, isEmpty};
 ghost use Rattle.page.specs.Pages.{page, putPage};
+ghost use Rattle.page.specs.Results.{madeEmpty, madeLonger, madePointing, madeShorter};
 use crate::change;
 use field::LogNo;
 use field::PageNo;
@@ -26,7 +25,7 @@ pub fn stamp_at(w: &mut [u8], p: PageNo, n: LogNo)
 pub fn make_empty_at(w: &mut [u8], p: PageNo, n: LogNo)
     requires { ⌜ (length (now w) ≡ 16384) × (p .0 < 64) ⌝ }
     requires { ⌜ isLeaf (page (p .0) (now w)) ≡ true ⌝ }
-    ensures { λ _. ⌜ now (w .exit) ≡ putPage (p .0) (made (empty .sign) (n .0) (spare (page (p .0) (now (w .entry)))) []) (now (w .entry)) ⌝ }
+    ensures { λ _. ⌜ now (w .exit) ≡ putPage (p .0) (madeEmpty (n .0) (page (p .0) (now (w .entry)))) (now (w .entry)) ⌝ }
 {
     let at = 256 * (p.0 as usize);
     change::make_empty(&mut w[at..at + 256], n);
@@ -37,7 +36,7 @@ pub fn append_at(w: &mut [u8], p: PageNo, rs: &[u8], k: u16, n: LogNo)
     requires { ⌜ (length (now w) ≡ 16384) × (p .0 < 64) ⌝ }
     requires { ⌜ pick (isEmpty (page (p .0) (now w))) true (isLeaf (page (p .0) (now w))) ≡ true ⌝ }
     requires { ⌜ (length (now rs) ≡ 16 * k) × (count (page (p .0) (now w)) + k ≤ 15) ⌝ }
-    ensures { λ _. ⌜ now (w .exit) ≡ putPage (p .0) (made (leaf .sign) (n .0) (spare (page (p .0) (now (w .entry)))) (records (page (p .0) (now (w .entry))) ++ rowsOf 16 k (now (rs .entry)))) (now (w .entry)) ⌝ }
+    ensures { λ _. ⌜ now (w .exit) ≡ putPage (p .0) (madeLonger (n .0) (rowsOf 16 k (now (rs .entry))) (page (p .0) (now (w .entry)))) (now (w .entry)) ⌝ }
 {
     let at = 256 * (p.0 as usize);
     change::append(&mut w[at..at + 256], rs, k, n);
@@ -47,7 +46,7 @@ pub fn append_at(w: &mut [u8], p: PageNo, rs: &[u8], k: u16, n: LogNo)
 pub fn redirect_at(w: &mut [u8], p: PageNo, i: usize, new: PageNo, n: LogNo)
     requires { ⌜ (length (now w) ≡ 16384) × (p .0 < 64) ⌝ }
     requires { ⌜ (isBase (page (p .0) (now w)) ≡ true) × (i < count (page (p .0) (now w))) × (new .0 < 64) ⌝ }
-    ensures { λ _. ⌜ now (w .exit) ≡ putPage (p .0) (made (base .sign) (n .0) (spare (page (p .0) (now (w .entry)))) (pointTo (keyOf (getD (entries (page (p .0) (now (w .entry)))) i [])) (toPage (getD (entries (page (p .0) (now (w .entry)))) i [])) (new .0) (entries (page (p .0) (now (w .entry)))))) (now (w .entry)) ⌝ }
+    ensures { λ _. ⌜ now (w .exit) ≡ putPage (p .0) (madePointing (n .0) i (new .0) (page (p .0) (now (w .entry)))) (now (w .entry)) ⌝ }
 {
     let at = 256 * (p.0 as usize);
     change::redirect(&mut w[at..at + 256], i, new, n);
@@ -57,7 +56,7 @@ pub fn redirect_at(w: &mut [u8], p: PageNo, i: usize, new: PageNo, n: LogNo)
 pub fn remove_at(w: &mut [u8], p: PageNo, i: usize, n: LogNo)
     requires { ⌜ (length (now w) ≡ 16384) × (p .0 < 64) ⌝ }
     requires { ⌜ (isBase (page (p .0) (now w)) ≡ true) × (i < count (page (p .0) (now w))) × (2 ≤ count (page (p .0) (now w))) ⌝ }
-    ensures { λ _. ⌜ now (w .exit) ≡ putPage (p .0) (made (base .sign) (n .0) (spare (page (p .0) (now (w .entry)))) (without (keyOf (getD (entries (page (p .0) (now (w .entry)))) i [])) (toPage (getD (entries (page (p .0) (now (w .entry)))) i [])) (entries (page (p .0) (now (w .entry)))))) (now (w .entry)) ⌝ }
+    ensures { λ _. ⌜ now (w .exit) ≡ putPage (p .0) (madeShorter (n .0) i (page (p .0) (now (w .entry)))) (now (w .entry)) ⌝ }
 {
     let at = 256 * (p.0 as usize);
     change::remove(&mut w[at..at + 256], i, n);

@@ -3,7 +3,7 @@ ghost use mathlib.Core.Path.{_≡_};
 ghost use mathlib.Core.List.{[]};
 ghost use Prim.Native.Nat.{_+_, _*_, _≤_, _<_};
 ghost use lib.ListN.{length, getD};
-ghost use Rattle.page.specs.Page.{keyOf, toPage, letter, count, number, rows};
+ghost use Rattle.page.specs.Page.{keyOf, toPage, valueOf, letter, count, number, rows};
 use field::LogNo;
 
 // The mark's second letter.
@@ -44,4 +44,15 @@ pub fn entry_page(pg: &[u8], i: usize) -> u16
     ensures { λ r. ⌜ r ≡ toPage (getD (rows 8 (now (pg .entry))) i []) ⌝ }
 {
     field::get2(pg, 16 + 8 * i + 6)
+}
+
+// The value of record i.
+pub fn record_value(pg: &[u8], i: usize) -> [u8; 10]
+    requires { ⌜ (16 + 16 * i + 16 ≤ length (now pg)) × (i < count (now pg)) ⌝ }
+    ensures { λ r. ⌜ r ≡ valueOf (getD (rows 16 (now (pg .entry))) i []) ⌝ }
+{
+    let at = 16 + 16 * i + 6;
+    let mut value = [0u8; 10];
+    field::copy(&mut value, 0, &pg[at..at + 10]);
+    value
 }

@@ -6,13 +6,17 @@ use Rattle.page.proofs.change.append.Statement.{statement}
 use Rattle.page.proofs.change.append.Tie as tie
 
 count-requires : tie.Need-count-requires
-count-requires c κs = let a = c .before .before .before in pick-takes (a .args .pg .now) (a .pre .0) .whole
+count-requires c κs =
+    let a = c .before .before .before in
+    pick-takes (a .args .pg .now) (a .pre .0) .whole
 
 add-set-head : tie.Need-add-set-head
 add-set-head c = search needs
 
 set-head-requires : tie.Need-set-head-requires
-set-head-requires c κs = let a = c .before .before .before .before .before in pick-takes (a .args .pg .now) (a .pre .0) .whole
+set-head-requires c κs =
+    let a = c .before .before .before .before .before in
+    pick-takes (a .args .pg .now) (a .pre .0) .whole
 
 cast-copy : tie.Need-cast-copy
 cast-copy c = search needs
@@ -24,13 +28,17 @@ add-copy : tie.Need-add-copy
 add-copy c = search needs
 
 copy-requires : tie.Need-copy-requires
-copy-requires c κs = let a = c .before .before .before .before .before .before .before .before .before in omega (arith, c .before .before .before .set-head .kept .0, pick-takes (a .args .pg .now) (a .pre .0) .whole)
+copy-requires c κs =
+    let a = c .before .before .before .before .before .before .before .before .before in
+    omega (arith, c .before .before .before .set-head .kept .0, pick-takes (a .args .pg .now) (a .pre .0) .whole)
 
 same-length : tie.Need-same-length
 same-length c = search needs
 
 returns : tie.Need-returns
-returns c = let a = c .before .before .before .before .before .before .before .before .before .before .before .before in cc (appended-is (a .args .n .0) (a .args .k) (a .args .rs .now) (a .args .pg .now) (a .pre .0) (a .pre .1 .0))
+returns c =
+    let a = c .before .before .before .before .before .before .before .before .before .before .before .before in
+    cc (appended-is (a .args .n .0) (a .args .k) (a .args .rs .now) (a .args .pg .now) (a .pre .0) (a .pre .1 .0))
 
 pub append-spec : {M : Type 1} → statement M
 append-spec =

@@ -8,8 +8,10 @@ use Rattle.page.proofs.form.shaped.Statement.{statement}
 use Rattle.page.proofs.form.shaped.Tie as tie
 
 -- the rows are in the page, for every need after the count's test
-room : (c : tie.Else5) → c .before .before .before .before .before .before .before .before .before .before .before .before .args .k .size * c .before .before .before .before .get2 .result ≤ 240
-room c = le-trans (mul-le-mul-left _ (c .if5 .left)) (c .before .before .before .before .before .before .before .before .before .before .before .before .pre .1)
+room : (c : tie.Else5)
+    → c .before .before .before .before .before .before .before .before .before .before .before .before .args .k .size * c .before .before .before .before .get2 .result ≤ 240
+room c =
+    le-trans (mul-le-mul-left _ (c .if5 .left)) (c .before .before .before .before .before .before .before .before .before .before .before .before .pre .1)
 
 returns : tie.Need-returns
 returns c = search shape-size!

@@ -13,7 +13,9 @@ count-requires : tie.Need-count-requires
 count-requires c κs = point-whole _ _ _ (c .before .shaped .ensures) (c .if1 .left)
 
 pointing-requires : tie.Need-pointing-requires
-pointing-requires c κs = let a = c .before .before .before .before in point-room _ _ _ (c .before .before .shaped .ensures) (c .before .if1 .left) (c .count .result) (c .count .ensures) (a .pre .2)
+pointing-requires c κs =
+    let a = c .before .before .before .before in
+    point-room _ _ _ (c .before .before .shaped .ensures) (c .before .if1 .left) (c .count .result) (c .count .ensures) (a .pre .2)
 
 returns-2 : tie.Need-returns-2
 returns-2 c = search point-rest!

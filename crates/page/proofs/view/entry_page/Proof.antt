@@ -18,7 +18,9 @@ get2-requires : tie.Need-get2-requires
 get2-requires c κs = search needs
 
 returns : tie.Need-returns
-returns c = let a = c .before .before in c .get2 .ensures ∙ page-at (a .args .i) (a .args .pg .now) (a .pre .1)
+returns c =
+    let a = c .before .before in
+    c .get2 .ensures ∙ page-at (a .args .i) (a .args .pg .now) (a .pre .1)
 
 pub entry-page-spec : {M : Type 1} → statement M
 entry-page-spec = tie.close (tie.spec mul-get2 add-get2 add-get2-2 get2-requires returns)

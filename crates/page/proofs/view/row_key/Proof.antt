@@ -18,7 +18,9 @@ get4-requires : tie.Need-get4-requires
 get4-requires c κs = search needs
 
 returns : tie.Need-returns
-returns c = let a = c .before .before in c .get4 .ensures ∙ key-at (a .args .sz) (a .args .i) (a .args .pg .now) (a .pre .0) (a .pre .2)
+returns c =
+    let a = c .before .before in
+    c .get4 .ensures ∙ key-at (a .args .sz) (a .args .i) (a .args .pg .now) (a .pre .0) (a .pre .2)
 
 pub row-key-spec : {M : Type 1} → statement M
 row-key-spec = tie.close (tie.spec mul-get4 add-get4 add-get4-2 get4-requires returns)

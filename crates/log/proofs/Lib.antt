@@ -1,6 +1,7 @@
 -- Laws of the log: the bytes of records, what is known after them, which record may follow, what is read, what is written, where records
 -- end, and logs that grow or are cut.
 pub mod Record
+pub mod Table
 pub mod State
 pub mod Begin
 pub mod Plan

@@ -2,6 +2,7 @@
 -- end, and logs that grow or are cut.
 pub mod Record
 pub mod Table
+pub mod Puts
 pub mod State
 pub mod Begin
 pub mod Plan

@@ -20,7 +20,30 @@ pub const LE: usize = 5;
 
 // Four bytes a kind: the mark, the fixed length, the bytes of each record carried.
 pub const KINDS: [u8; 24] = [
-    b'L', b'C', 24, 0, b'L', b'B', 44, 0, b'L', b'O', 20, 16, b'L', b'I', 24, 0, b'L', b'M', 28, 0, b'L', b'E', 16, 0,
+    b'L',
+    b'C',
+    24,
+    0,
+    b'L',
+    b'B',
+    44,
+    0,
+    b'L',
+    b'O',
+    20,
+    16,
+    b'L',
+    b'I',
+    24,
+    0,
+    b'L',
+    b'M',
+    28,
+    0,
+    b'L',
+    b'E',
+    16,
+    0,
 ];
 
 // A number of the table, by its place.

@@ -1,2 +1,3 @@
 // The log: the table of record kinds, writing a record, and reading a whole log in one pass.
 pub mod kind;
+pub mod writing;

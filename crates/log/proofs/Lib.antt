@@ -3,6 +3,10 @@
 pub mod Record
 pub mod Table
 pub mod Puts
+pub mod Compare
+pub mod Fields
+pub mod Typed
+pub mod Stand
 pub mod State
 pub mod Begin
 pub mod Plan

@@ -4,3 +4,4 @@ pub mod Table
 pub mod Write
 pub mod Plan
 pub mod Log
+pub mod Stand

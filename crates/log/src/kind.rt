@@ -77,3 +77,11 @@ pub fn length_of(k: usize, n: u16) -> u16
     let each = wide(cell(4 * k + 3));
     fixed + each * n
 }
+
+// The same as a count of bytes in a buffer.
+pub fn size_of(k: usize, n: u16) -> usize
+    requires { ⌜ (k < 6) × (n ≤ 15) ⌝ }
+    ensures { λ r. ⌜ r ≡ lengthOf (kindAt k) n ⌝ }
+{
+    length_of(k, n) as usize
+}

@@ -4,8 +4,10 @@ pub mod Record
 pub mod Table
 pub mod Puts
 pub mod Compare
+pub mod Starts
 pub mod Fields
 pub mod Typed
+pub mod Begun
 pub mod Stand
 pub mod State
 pub mod Begin

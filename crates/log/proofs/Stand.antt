@@ -26,7 +26,7 @@ unfolding put
 put-front-is bs z n e = take-at bs (drop (0 + length bs) z) n e
 
 -- a test that fails behind another
-both-none : (a b : Bool) → b ≡ false → both a b ≡ false
+pub both-none : (a b : Bool) → b ≡ false → both a b ≡ false
 unfolding both
 both-none true b e = e
 both-none false b e = refl

@@ -1,12 +1,12 @@
 -- The tests of one record, as one Bool each: what `readRec` asks of the record that must come next. Assumes nothing.
-use Prim.Native.Nat.{ℕ, _+_}
+use Prim.Native.Nat.{ℕ, _+_, _-_, _*_}
 use mathlib.Core.Bool.{Bool, true, false}
 use mathlib.Core.List.{List, [], _∷_}
 use mathlib.Core.Option.{Option, some, none}
-use lib.ListN.{length, drop}
+use lib.ListN.{length, drop, getD}
 use lib.Dec.{leb}
 use Rattle.field.specs.Test.{both, all, given}
-use Rattle.field.specs.Bytes.{starts, le2, le4, most4}
+use Rattle.field.specs.Bytes.{part, allZero, starts, le2, le4, most4}
 use Rattle.page.specs.Page.{rowsOf, ascendRecords}
 use Rattle.log.specs.Record.{Begin, Rec, LB, LO, LM, into, lengthOf, size, encode}
 use Rattle.log.specs.Write.{inBytes}
@@ -34,3 +34,10 @@ standsOut n org dest l =
 -- the same of an LB of this unit
 unfoldable pub standsBegin : (n unit : ℕ) → (l : List ℕ) → Bool
 standsBegin n u l = let g : Begin = readBegin u l in both (beginOk g) (stands n (LB g) l)
+
+-- the fields that a begin record leaves unused are zero: behind its bases, behind its leaves, and its last
+unfoldable pub spareZero : (l : List ℕ) → Bool
+spareZero l =
+    let b : ℕ = 20 + 2 * getD l 18 0 in
+    let c : ℕ = 24 + 2 * getD l 19 0 in
+    all (allZero (part b (24 - b) l) ∷ allZero (part c (40 - c) l) ∷ allZero (part 42 2 l) ∷ [])

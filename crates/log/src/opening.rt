@@ -2,6 +2,7 @@
 ghost use mathlib.Core.Path.{_≡_};
 ghost use Prim.Native.Nat.{_+_, _-_, _*_, _≤_, _<_};
 ghost use lib.ListN.{length, drop, getD};
+ghost use Rattle.log.specs.Stand.{spareZero};
 ghost use Rattle.log.specs.Log.{within, listed, differ, compactOk, swapOk, moveOk, typeOk, beginOk, readFields, readBegin};
 
 // The byte at an offset, as a count.
@@ -158,4 +159,42 @@ fn type_ok(m: &[u8]) -> bool
         return move_ok(m);
     }
     false
+}
+
+// Whether a begin record keeps all rules but those of its header, its unit number and its unused fields.
+pub fn begin_ok(m: &[u8]) -> bool
+    requires { ⌜ 44 ≤ length (now m) ⌝ }
+    ensures { λ r. ⌜ r ≡ beginOk (readBegin 0 (now (m .entry))) ⌝ }
+{
+    let bases = byte_at(m, 18);
+    let leaves = byte_at(m, 19);
+    if !type_ok(m) {
+        return false;
+    }
+    if !within(m, 1, 7, 20, bases) {
+        return false;
+    }
+    if !differ(m, 20, bases) {
+        return false;
+    }
+    if !within(m, 8, 63, 24, leaves) {
+        return false;
+    }
+    differ(m, 24, leaves)
+}
+
+// Whether the fields that a begin record leaves unused are zero.
+pub fn spare_zero(m: &[u8]) -> bool
+    requires { ⌜ (44 ≤ length (now m)) × (getD (now m) 18 0 ≤ 2) × (getD (now m) 19 0 ≤ 8) ⌝ }
+    ensures { λ r. ⌜ r ≡ spareZero (now (m .entry)) ⌝ }
+{
+    let bases = 20 + 2 * byte_at(m, 18);
+    let leaves = 24 + 2 * byte_at(m, 19);
+    if !field::zeros(&m[bases..24]) {
+        return false;
+    }
+    if !field::zeros(&m[leaves..40]) {
+        return false;
+    }
+    field::zeros(&m[42..44])
 }

@@ -4,8 +4,9 @@ ghost use Prim.Native.Nat.{_+_, _-_, _*_, _≤_, _<_};
 ghost use lib.ListN.{length, take, drop};
 ghost use Rattle.field.specs.Bytes.{starts};
 ghost use Rattle.log.specs.Record.{LE};
-ghost use Rattle.log.specs.Stand.{stands, standsIn, standsModify};
+ghost use Rattle.log.specs.Stand.{stands, standsIn, standsModify, standsBegin};
 use crate::kind;
+use crate::opening;
 use crate::writing;
 
 // Whether the first n bytes of b stand in l from the offset at.
@@ -64,4 +65,22 @@ fn is_in(l: &[u8], at: usize, n: u32, org: u16, dest: u16, back: u32, rows: u16)
     let mut b = [0u8; 28];
     writing::put_in(&mut b, 0, n, org, dest, rows, back);
     same_at(l, at, &b, long)
+}
+
+// Whether an LB of this unit stands at the front of m.
+pub fn is_begin(m: &[u8], n: u32, unit: u32) -> bool
+    ensures { λ r. ⌜ r ≡ standsBegin n unit (now (m .entry)) ⌝ }
+{
+    if m.len() < kind::size_of(kind::LB, 0) {
+        return false;
+    }
+    if !opening::begin_ok(m) {
+        return false;
+    }
+    if !opening::spare_zero(m) {
+        return false;
+    }
+    let mut b = [0u8; 28];
+    writing::put_unit(&mut b, 0, kind::LB, n, 0, unit);
+    same_at(m, 0, &b, 16)
 }

@@ -33,7 +33,7 @@ fn put_header(s: &mut [u8], at: usize, k: usize, long: u16, n: u32, prior: u32)
 }
 
 // A header and a unit number: all of an LE, and the front of an LB.
-fn put_unit(s: &mut [u8], at: usize, k: usize, n: u32, prior: u32, unit: u32)
+pub fn put_unit(s: &mut [u8], at: usize, k: usize, n: u32, prior: u32, unit: u32)
     requires { ⌜ (k < 6) × (at + 16 ≤ length (now s)) ⌝ }
     ensures { λ _. ⌜ now (s .exit) ≡ put at (unitHead (kindAt k) n prior unit) (now (s .entry)) ⌝ }
 {

@@ -8,6 +8,7 @@ pub mod Starts
 pub mod Fields
 pub mod Typed
 pub mod Begun
+pub mod Rowed
 pub mod Stand
 pub mod State
 pub mod Begin

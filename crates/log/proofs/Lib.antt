@@ -9,6 +9,7 @@ pub mod Fields
 pub mod Typed
 pub mod Begun
 pub mod Rowed
+pub mod Placed
 pub mod Stand
 pub mod State
 pub mod Begin

@@ -2,4 +2,5 @@
 pub mod kind;
 pub mod opening;
 pub mod reading;
+pub mod steps;
 pub mod writing;

@@ -10,6 +10,8 @@ pub mod Typed
 pub mod Begun
 pub mod Rowed
 pub mod Placed
+pub mod Turned
+pub mod Ways
 pub mod Stand
 pub mod State
 pub mod Begin

@@ -6,3 +6,4 @@ pub mod Plan
 pub mod Steps
 pub mod Log
 pub mod Stand
+pub mod Scan

@@ -29,7 +29,7 @@ fn same_at(l: &[u8], at: usize, b: &[u8], n: usize) -> bool
 }
 
 // Whether the LE of this unit stands there, with the log number n.
-fn is_end(l: &[u8], at: usize, n: u32, unit: u32) -> bool
+pub fn is_end(l: &[u8], at: usize, n: u32, unit: u32) -> bool
     requires { ⌜ (at ≤ length (now l)) × (1 ≤ n) ⌝ }
     ensures { λ r. ⌜ r ≡ stands n (LE unit) (drop at (now (l .entry))) ⌝ }
 {
@@ -43,7 +43,7 @@ fn is_end(l: &[u8], at: usize, n: u32, unit: u32) -> bool
 }
 
 // Whether an LM of these pages stands there, whatever its key.
-fn is_modify(l: &[u8], at: usize, n: u32, base: u16, old: u16, new: u16) -> bool
+pub fn is_modify(l: &[u8], at: usize, n: u32, base: u16, old: u16, new: u16) -> bool
     requires { ⌜ (at ≤ length (now l)) × (1 ≤ n) ⌝ }
     ensures { λ r. ⌜ r ≡ standsModify n base old new (drop at (now (l .entry))) ⌝ }
 {
@@ -58,8 +58,8 @@ fn is_modify(l: &[u8], at: usize, n: u32, base: u16, old: u16, new: u16) -> bool
 }
 
 // Whether an LI of these pages stands there, of as many records as its LO, which stands `back` records before.
-fn is_in(l: &[u8], at: usize, n: u32, org: u16, dest: u16, back: u32, rows: u16) -> bool
-    requires { ⌜ (at ≤ length (now l)) × (1 ≤ n) × (back ≤ n) ⌝ }
+pub fn is_in(l: &[u8], at: usize, n: u32, org: u16, dest: u16, back: u32, rows: u16) -> bool
+    requires { ⌜ (at ≤ length (now l)) × (1 ≤ n) ⌝ }
     ensures { λ r. ⌜ r ≡ standsIn n org dest back rows (drop at (now (l .entry))) ⌝ }
 {
     let long = kind::size_of(kind::LI, 0);

@@ -53,13 +53,23 @@ pub fn put_paged(s: &mut [u8], at: usize, k: usize, rows: u16, n: u32, a: u16, b
     field::put2(s, at + 18, 0);
 }
 
+// The difference, 0 where there is none.
+fn less(n: u32, k: u32) -> u32
+    ensures { λ r. ⌜ r ≡ n - k ⌝ }
+{
+    if n < k {
+        return 0;
+    }
+    n - k
+}
+
 // An LI whose LO stands `back` records before and carried `rows` records.
 pub fn put_in(s: &mut [u8], at: usize, n: u32, org: u16, dest: u16, rows: u16, back: u32)
-    requires { ⌜ (back ≤ n) × (1 ≤ n) × (at + 24 ≤ length (now s)) ⌝ }
+    requires { ⌜ (1 ≤ n) × (at + 24 ≤ length (now s)) ⌝ }
     ensures { λ _. ⌜ now (s .exit) ≡ put at (inBytes n org dest back rows) (now (s .entry)) ⌝ }
 {
     put_paged(s, at, kind::LI, 0, n, org, dest, rows);
-    field::put4(s, at + 20, n - back);
+    field::put4(s, at + 20, less(n, back));
 }
 
 // The new key of an LM.

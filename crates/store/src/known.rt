@@ -1,0 +1,24 @@
+// What the calls have in common: the two numbers beside the log, and test 2.
+ghost use mathlib.Core.Path.{_≡_};
+ghost use Rattle.store.specs.Knows.{knows};
+use log::scan::Scan;
+
+// Bytes used and bytes forced of the log.
+pub struct Numbers {
+    pub used: u32,
+    pub forced: u32,
+}
+
+// Test 2: the log in form, used at its end, forced at a record's end.
+pub fn knows(s: Scan, used: u32) -> bool
+    ensures { λ r. ⌜ r ≡ knows s used ⌝ }
+{
+    let w = s.walk;
+    if !w.ok {
+        return false;
+    }
+    if w.at != used as usize {
+        return false;
+    }
+    s.ends
+}

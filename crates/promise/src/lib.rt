@@ -1,1 +1,1 @@
-// x
+// No product code: the rows of document 01 and demand 3, over the calls' definitions.

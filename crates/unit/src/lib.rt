@@ -1,1 +1,1 @@
-// x
+// The definitions and laws of this layer; its code comes with the calls.

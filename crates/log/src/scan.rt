@@ -352,3 +352,20 @@ fn finish(l: &[u8], w: Walk, e: Mark) -> Scan
         forced: e.number,
     }
 }
+
+// The whole pass: all that a call needs to know of the log, of which `forced` bytes are forced.
+pub fn scan_log(l: &[u8], forced: u32) -> Scan
+    ensures { λ r. ⌜ r ≡ scanned forced (now (l .entry)) ⌝ }
+{
+    let mut w = top(l);
+    let mut e = Mark {
+        ends: false,
+        number: 0,
+    };
+    while live(l, w) {
+        e = noted(e, w.at, w.number, forced);
+        w = turn(l, w);
+    }
+    e = noted(e, w.at, w.number, forced);
+    finish(l, w, e)
+}

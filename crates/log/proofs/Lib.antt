@@ -12,6 +12,8 @@ pub mod Rowed
 pub mod Placed
 pub mod Turned
 pub mod Ways
+pub mod Held
+pub mod Pass
 pub mod Stand
 pub mod State
 pub mod Begin

@@ -138,7 +138,7 @@ shown-ended s o u op =
 -- ---- what is read, by one test
 
 -- a value that is there where a test holds
-given-when : {A B : Type 0} (f : A → B) (b : B) (t : Bool) (x : A) → given (when t x) b f ≡ pick t (f x) b
+pub given-when : {A B : Type 0} (f : A → B) (b : B) (t : Bool) (x : A) → given (when t x) b f ≡ pick t (f x) b
 unfolding given when pick
 given-when f b true x = refl
 given-when f b false x = refl
@@ -216,7 +216,7 @@ module _ (s : State) (o : Open) (op : s .opened ≡ some o) (m : List ℕ) where
       ∙ rw (shown-ended s o u op, number-is))
 
   -- an LI says how many records its LO carried, which is the record before or the unit's first
-  pub Counted : Step → Type 0
+  unfoldable pub Counted : Step → Type 0
   Counted x = (org dest back : ℕ) → x ≡ bringIn org dest back → pick (eqb back 1) ((shown s) .rows) ((shown s) .first) ≡ length (taken back (o .did))
 
   step-any : (x : Step) → Counted x → Reads x

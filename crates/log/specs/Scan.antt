@@ -2,13 +2,13 @@
 -- Assumes nothing.
 use Prim.Native.Nat.{ℕ, zero, suc, _+_, _-_, _*_, _≤_, _<_}
 use mathlib.Core.Path.{_≡_}
-use mathlib.Core.Bool.{Bool, true, false}
+use mathlib.Core.Bool.{Bool, true, false, not}
 use mathlib.Core.List.{List, [], _∷_}
 use mathlib.Core.Option.{Option, some, none}
 use lib.ListN.{length, drop, getD}
 use lib.Dec.{eqb}
-use Rattle.field.specs.Test.{pick, given, there}
-use Rattle.field.specs.Bytes.{le2, le4}
+use Rattle.field.specs.Test.{both, pick, given, there}
+use Rattle.field.specs.Bytes.{allZero, le2, le4}
 use Rattle.page.specs.Page.{rowsOf}
 use Rattle.log.specs.Record.{Rec, LB, LO, LI, LM, LE, check, begin, out, into, modify, end, lengthOf, carried, size}
 use Rattle.log.specs.Plan.{Step, takeOut, bringIn, point, close, plan}
@@ -16,6 +16,7 @@ use Rattle.log.specs.Log.{Open, State, largest, largestMoved, beginOk, r
 use Rattle.log.specs.Stand.{stands, standsIn, standsModify, standsOut, standsBegin}
 use Rattle.log.specs.declared.scan.Walk.{Walk}
 use Rattle.log.specs.declared.scan.Scan.{Scan}
+use Rattle.log.specs.declared.scan.Mark.{Mark}
 
 -- ---- a state by numbers
 
@@ -177,3 +178,21 @@ answer w f = record { walk = w; ends = there f; forced = given f 0 (λ n. n) }
 -- all that a call needs to know of a log, of which `forced` bytes are forced
 unfoldable pub scanned : (forced : ℕ) → (l : List ℕ) → Scan
 scanned f l = given (readLog l) (answer lost none) (λ g. answer (shown (atEnd g)) (lastForced f g))
+
+-- ---- the pass
+
+-- what was found of the record that ends at the bytes forced
+unfoldable pub markOf : Option ℕ → Mark
+markOf f = record { ends = there f; number = given f 0 (λ n. n) }
+
+-- a record with this number ends at the offset at
+unfoldable pub noted : Mark → (at n f : ℕ) → Mark
+noted e at n f = pick (e .ends) e (pick (eqb at f) (record { ends = true; number = n }) (record { ends = false; number = 0 }))
+
+-- another record comes
+unfoldable pub live : (l : List ℕ) → Walk → Bool
+live l w = both (w .ok) (not (eqb (getD l (w .at) 0) 0))
+
+-- the answer at the log's end, where all bytes after are zero
+unfoldable pub finished : (l : List ℕ) → Walk → Mark → Scan
+finished l w e = pick (both (w .ok) (allZero (drop (w .at) l))) (record { walk = w; ends = e .ends; forced = e .number }) (answer lost none)

@@ -7,7 +7,8 @@ ghost use Rattle.field.specs.Test.{pick};
 ghost use Rattle.field.specs.Bytes.{starts};
 ghost use Rattle.page.specs.Page.{rowsOf, ascend};
 ghost use Rattle.log.specs.Log.{largest};
-ghost use Rattle.log.specs.Record.{LE};
+ghost use Rattle.log.specs.Record.{LE, encodeCheck};
+ghost use Rattle.log.specs.Write.{checkOf};
 ghost use Rattle.log.specs.Stand.{stands, standsIn, standsModify, standsOut, standsBegin};
 use crate::kind;
 use crate::opening;
@@ -165,4 +166,14 @@ pub fn is_out(m: &[u8], n: u32, org: u16, dest: u16) -> bool
     let mut b = [0u8; 28];
     writing::put_paged(&mut b, 0, kind::LO, k, n, org, dest, k);
     same_at(m, 0, &b, fixed)
+}
+
+// Whether the check record of these numbers stands at the front of l.
+pub fn is_check(l: &[u8], n: u32, unit: u32, known: bool, key: u32) -> bool
+    requires { ⌜ 24 ≤ length (now l) ⌝ }
+    ensures { λ r. ⌜ r ≡ starts (encodeCheck (checkOf n unit known key)) (now (l .entry)) ⌝ }
+{
+    let mut b = [0u8; 28];
+    writing::put_check(&mut b, n, unit, known, key);
+    same_at(l, 0, &b, kind::size_of(kind::LC, 0))
 }

@@ -8,11 +8,12 @@ ghost use Rattle.field.specs.Test.{pick};
 ghost use Rattle.log.specs.Plan.{takeOut, bringIn, point, close};
 ghost use Rattle.log.specs.Stand.{standsBegin};
 ghost use Rattle.log.specs.Steps.{stepOf};
-ghost use Rattle.log.specs.Scan.{lost, begun, went, ended, stepped, turned, Ready, topped, scanned};
+ghost use Rattle.log.specs.Scan.{lost, begun, went, ended, stepped, turned, Ready, topped, noted, live, finished, scanned};
 use crate::kind;
 use crate::reading;
 use crate::steps;
 use crate::steps::Planned;
+use crate::writing;
 
 // What is known after a record: the log's end and its last number, the last unit, LK; of an open unit where its LB stands, how many of
 // its steps are done, where the record before stands, how many records that one and the unit's first carry, the key of the LM before (0 if
@@ -39,6 +40,12 @@ pub struct Scan {
     pub walk: Walk,
     pub ends: bool,
     pub forced: u32,
+}
+
+// Whether a record was found that ends at the bytes forced, and its number.
+pub struct Mark {
+    pub ends: bool,
+    pub number: u32,
 }
 
 // Log form broken.
@@ -254,4 +261,111 @@ fn turn(l: &[u8], w: Walk) -> Walk
     let compact = l[begin + 16] == 1;
     let x = steps::step_at(&l[begin..], w.unit, w.done);
     step_turn(&l[at..], w, compact, x)
+}
+
+// What the check record says.
+fn top(l: &[u8]) -> Walk
+    ensures { λ r. ⌜ r ≡ topped (now (l .entry)) ⌝ }
+{
+    let long = kind::size_of(kind::LC, 0);
+    if l.len() < long {
+        return lost();
+    }
+    let number = field::get4(l, 4);
+    let unit = field::get4(l, 12);
+    let known = l[16] != 0;
+    let key = field::get4(l, 20);
+    if !reading::is_check(l, number, unit, known, key) {
+        return lost();
+    }
+    Walk {
+        ok: true,
+        at: long,
+        number,
+        unit,
+        known,
+        lk: writing::number_if(known, key),
+        opened: false,
+        begin: 0,
+        done: 0,
+        last: 0,
+        rows: 0,
+        first: 0,
+        key: 0,
+        moved: 0,
+    }
+}
+
+// Notes the record that ends at `at` where nothing was found yet.
+fn noted(e: Mark, at: usize, number: u32, forced: u32) -> Mark
+    ensures { λ r. ⌜ r ≡ noted e at number forced ⌝ }
+{
+    if e.ends {
+        return e;
+    }
+    if at == forced as usize {
+        return Mark { ends: true, number };
+    }
+    Mark {
+        ends: false,
+        number: 0,
+    }
+}
+
+// Whether another record comes: the log's form is not broken and the byte there is not zero.
+fn live(l: &[u8], w: Walk) -> bool
+    ensures { λ r. ⌜ r ≡ live (now (l .entry)) w ⌝ }
+{
+    let at = w.at;
+    if !w.ok {
+        return false;
+    }
+    if l.len() <= at {
+        return false;
+    }
+    l[at] != 0
+}
+
+// The answer at the log's end: all bytes after are zero.
+fn finish(l: &[u8], w: Walk, e: Mark) -> Scan
+    requires { ⌜ w .at ≤ length (now l) ⌝ }
+    ensures { λ r. ⌜ r ≡ finished (now (l .entry)) w e ⌝ }
+{
+    let at = w.at;
+    if !w.ok {
+        return Scan {
+            walk: lost(),
+            ends: false,
+            forced: 0,
+        };
+    }
+    if !field::zeros(&l[at..]) {
+        return Scan {
+            walk: lost(),
+            ends: false,
+            forced: 0,
+        };
+    }
+    Scan {
+        walk: w,
+        ends: e.ends,
+        forced: e.number,
+    }
+}
+
+// The whole pass: all that a call needs to know of the log, of which `forced` bytes are forced.
+pub fn scan_log(l: &[u8], forced: u32) -> Scan
+    ensures { λ r. ⌜ r ≡ scanned forced (now (l .entry)) ⌝ }
+{
+    let mut w = top(l);
+    let mut e = Mark {
+        ends: false,
+        number: 0,
+    };
+    while live(l, w) {
+        e = noted(e, w.at, w.number, forced);
+        w = turn(l, w);
+    }
+    e = noted(e, w.at, w.number, forced);
+    finish(l, w, e)
 }

@@ -111,7 +111,7 @@ pub fn put_out(s: &mut [u8], at: usize, n: u32, org: u16, dest: u16, k: u16, rs:
 }
 
 // The number where the test holds, else 0.
-fn number_if(there: bool, v: u32) -> u32
+pub fn number_if(there: bool, v: u32) -> u32
     ensures { λ r. ⌜ r ≡ pick there v 0 ⌝ }
 {
     if there {

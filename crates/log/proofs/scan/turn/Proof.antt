@@ -1,5 +1,7 @@
 -- `log::scan::turn` meets its contract: an LB where no unit is open, else the planned step. Assumes nothing.
 use native.Mathlib.Omega.{arith}
+use mathlib.Core.Path.{_≡_}
+use mathlib.Core.Bool.{true}
 use lib.ListN.{length, length-drop}
 use borrow.Author.Tests.{not-false}
 use borrow.Rule.Slice.PartAt.{part-to-end}
@@ -45,7 +47,7 @@ part-step-at-end : tie.Need-part-step-at-end
 part-step-at-end c = search needs
 
 step-at-requires : tie.Need-step-at-requires
-step-at-requires c κs = let a = c .before .before .before .before .before .before .before in let h = not-false _ (c .before .before .if2 .left) in (rw (part-to-end, length-drop) (omega (arith, a .pre .room h)), rw part-to-end (a .pre .start h))
+step-at-requires c κs = let a = c .before .before .before .before .before .before .before in let h : a .args .w .opened ≡ true = not-false _ (c .before .before .if2 .left) in (rw (part-to-end, length-drop) (omega (arith, a .pre .room h)), rw part-to-end (a .pre .start h))
 
 sub-step-turn : tie.Need-sub-step-turn
 sub-step-turn c = search needs

@@ -1,6 +1,6 @@
 -- The layout page by page: each page that the code makes is that page of the layout, and 64 of them are the layout. Assumes nothing.
 use Prim.Native.Nat.{ℕ, zero, suc, _+_, _-_, _*_, _/_, _≤_, _<_, min}
-use native.Mathlib.Nat.{add-zero, zero-add, mul-comm, mul-le-mul-left, not-suc-le-zero}
+use native.Mathlib.Nat.{add-zero, zero-add, mul-comm, mul-le-mul-left, not-suc-le-zero, div-le-self}
 use native.Mathlib.Omega.{arith}
 use mathlib.Core.Path.{_≡_, refl, sym, ap, ap₂, _∙_}
 use mathlib.Core.Bool.{Bool, true, false}
@@ -25,6 +25,24 @@ use Rattle.tree.proofs.Sound.{each-of}
 use Rattle.tree.proofs.Into.{each-drop}
 use Rattle.tree.proofs.Listing.{each-take}
 use Rattle.tree.proofs.Groups.{pieces-some, leaf-count, leaf-group, leaf-inside, base-count, base-inside, base-group, root-group, long-run, length-run}
+
+-- ---- build's tests
+
+-- what the counts of leaves and base pages say of the records
+pub buildable : (f g : ℕ) (records : List ℕ) → 1 ≤ f → f ≤ 15 → 1 ≤ g → g ≤ 30 → length (leafGroups f (rowsOf 16 (length records / 16) records)) ≤ 56
+    → length (baseGroups f g (rowsOf 16 (length records / 16) records)) ≤ 7 → Buildable f g (length records)
+buildable f g records a b c d l m = record {
+  leaf-least = a;
+  leaf-most = b;
+  base-least = c;
+  base-most = d;
+  leaves = rw (← leaf-count f g (length records / 16) records a c) l;
+  bases = rw (← base-count f g (length records / 16) records a c) m;
+}
+
+pub pieces-few : (n k : ℕ) → 1 ≤ k → pieces n k ≤ n + k
+unfolding pieces
+pieces-few n k h = omega (arith, div-le-self (n + k - 1) k)
 
 -- ---- a page by its place
 

@@ -6,17 +6,34 @@ ghost use Prim.Native.Nat.{_+_, _-_, _*_, _/_, _%_, _≤_, _<_, min};
 ghost use lib.ListN.{length, take, drop};
 ghost use Rattle.field.specs.Bytes.{zeroes};
 ghost use Rattle.page.specs.Page.{base, leaf, rowsOf, ascendRecords, made};
-ghost use Rattle.tree.specs.Layout.{fresh, baseGroups, layout};
+ghost use Rattle.tree.specs.Layout.{fresh, leafGroups, baseGroups, layout};
 ghost use Rattle.tree.specs.Pieces.{pieces, leafKey, entryRun, Leaves, Buildable, nth, layoutPage};
 use field::PageNo;
 use page::image;
 
 // How many groups of k there are of n.
-pub fn pieces(n: usize, k: usize) -> usize
-    requires { ⌜ (0 < k) × (k ≤ 30) × (n ≤ 1073741824) ⌝ }
+fn pieces(n: usize, k: usize) -> usize
+    requires { ⌜ (0 < k) × (k ≤ 30) × (n ≤ 1152921504606846976) ⌝ }
     ensures { λ r. ⌜ r ≡ pieces n k ⌝ }
 {
     (n + k - 1) / k
+}
+
+// How many leaves build makes of the records, f in each.
+pub fn leaf_count(records: &[u8], f: u32) -> usize
+    requires { ⌜ (1 ≤ f) × (f ≤ 15) ⌝ }
+    ensures { λ r. ⌜ r ≡ length (leafGroups f (rowsOf 16 (length (now (records .entry)) / 16) (now (records .entry)))) ⌝ }
+{
+    pieces(records.len() / 16, f as usize)
+}
+
+// How many base pages build makes of the records, with g entries in each.
+pub fn base_count(records: &[u8], f: u32, g: u32) -> usize
+    requires { ⌜ (1 ≤ f) × (f ≤ 15) × (1 ≤ g) × (g ≤ 30) ⌝ }
+    ensures { λ r. ⌜ r ≡ length (baseGroups f g (rowsOf 16 (length (now (records .entry)) / 16) (now (records .entry)))) ⌝ }
+{
+    let leaves = pieces(records.len() / 16, f as usize);
+    pieces(leaves, g as usize)
 }
 
 // Whether records bear their mark and their keys ascend.

@@ -9,3 +9,5 @@ pub mod Chain
 pub mod Onward
 pub mod Listing
 pub mod Into
+pub mod Groups
+pub mod Laid

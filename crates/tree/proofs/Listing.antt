@@ -50,7 +50,7 @@ between-few low high (r ∷ rs) =
 take-past : (n : ℕ) (xs ys : List (List ℕ)) → length xs ≤ n → take n (xs ++ ys) ≡ xs ++ take (n - length xs) ys
 take-past n xs ys h = let e : n ≡ length xs + (n - length xs) = omega arith in ap (λ (k : ℕ). take k (xs ++ ys)) e ∙ take-append-add xs ys (n - length xs)
 
-each-take : {P : List ℕ → Type 0} (n : ℕ) (rs : List (List ℕ)) → Each P rs → Each P (take n rs)
+pub each-take : {P : List ℕ → Type 0} (n : ℕ) (rs : List (List ℕ)) → Each P rs → Each P (take n rs)
 each-take zero rs p = nil
 each-take (suc n) [] nil = nil
 each-take (suc n) (r ∷ rs) (cons h p) = cons h (each-take n rs p)

@@ -5,3 +5,4 @@ pub mod Way
 pub mod Walk
 pub mod Reader
 pub mod Layout
+pub mod Pieces

@@ -3,4 +3,4 @@ pub mod Refusals
 pub mod Chain
 pub mod Build
 pub mod Writing
-pub mod Known
+pub mod Passed

@@ -15,7 +15,7 @@ pub struct FindAnswer {
 
 // A refusal: ten zeros beside its number.
 fn without(n: Numbers, reply: u8) -> FindAnswer
-    ensures { λ r. ⌜ (r .found .reply ≡ reply) × (r .found .value ≡ zeroes 10) × (r .numbers ≡ n) ⌝ }
+    ensures { λ r. ⌜ (r .found .reply ≡ reply) × (r .found .value ≡ zeroes 10) × (r .numbers .used ≡ n .used) × (r .numbers .forced ≡ n .forced) ⌝ }
 {
     FindAnswer {
         found: Found { reply, value: [0u8; 10] },
@@ -34,7 +34,7 @@ pub fn find(n: Numbers, work: &[u8], log: &[u8], key: u32) -> FindAnswer
     if log.len() != 8192 {
         return without(n, 1);
     }
-    let s = log::scan::scan(log, n.forced);
+    let s = log::scan::scan_log(log, n.forced);
     if !known::knows(s, n.used) {
         return without(n, 2);
     }

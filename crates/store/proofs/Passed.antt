@@ -1,18 +1,23 @@
 -- What one pass over the log has answered is what test 2 finds. Assumes nothing.
 use Prim.Native.Nat.{ℕ}
 use mathlib.Core.Path.{_≡_, refl, sym, ap, _∙_, subst}
-use mathlib.Core.Bool.{Bool, true, false, false≢true}
-use mathlib.Core.List.{List}
+use mathlib.Core.Bool.{Bool, true, false, not, false≢true}
+use mathlib.Core.List.{List, []}
+use lib.ListN.{length}
 use mathlib.Core.Option.{Option, some, none}
 use lib.Dec.{eqb}
-use borrow.Author.Tests.{eqb-true, eq-eqb, ne-eqb}
+use borrow.Author.Tests.{eqb-true, eq-eqb, ne-eqb, not-true, not-false}
+use Rattle.field.specs.Bytes.{zeroes}
 use Rattle.field.specs.Test.{both, given, when, bind, there}
-use Rattle.field.proofs.Test.{both-1, both-intro, both-false, when-true, when-false}
+use Rattle.field.proofs.Test.{both-1, both-intro, both-true, both-false, when-true, when-false}
 use Rattle.log.specs.Log.{Open, State, Log, readLog, atEnd, lastForced}
 use Rattle.log.specs.Scan.{shown, lost, answer, scanned}
 use Rattle.log.specs.declared.scan.Scan.{Scan}
 use Rattle.log.specs.declared.scan.Walk.{Walk}
-use Rattle.store.specs.Calls.{Lent, known}
+use Rattle.tree.specs.Answer.{Found, missing, found, lookUp}
+use Rattle.tree.specs.Way.{replyOf, bytesOf}
+use Rattle.store.specs.Calls.{Lent, lent, Left, left, refused, known, answered, find}
+use Rattle.store.proofs.Chain.{two-no-work, two-no-log, two-sized, find-unsized, find-unknown, find-open, find-looks}
 use Rattle.store.specs.Knows.{knows}
 
 -- the log that test 2 finds, the numbers of its end, the number of its last forced record
@@ -107,3 +112,58 @@ is-open d s k e = opened-some (atEnd (k .log)) (sym (ap (λ (w : Walk). w .opene
 
 pub is-shut : (d : Lent) (s : Scan) (k : Knows d s) → s .walk .opened ≡ false → atEnd (k .log) .opened ≡ none
 is-shut d s k e = opened-none (atEnd (k .log)) (sym (ap (λ (w : Walk). w .opened) (k .walk)) ∙ e)
+
+-- ---- test 2 on numbers, for `search`
+
+module _ (s : Scan) (used : ℕ) where
+  pub knows-broken! : not (s .walk .ok) ≡ true → false ≡ knows s used
+  unfolding knows
+  knows-broken! a = sym (both-false _ _ (not-true (s .walk .ok) a))
+
+  pub knows-elsewhere! : not (s .walk .ok) ≡ false → (s .walk .at ≡ used → ⊥) → false ≡ knows s used
+  unfolding knows
+  knows-elsewhere! a b = sym (both-true _ _ (not-false (s .walk .ok) a) ∙ both-false _ _ (ne-eqb (s .walk .at) used b))
+
+  pub knows-ends! : not (s .walk .ok) ≡ false → s .walk .at ≡ used → s .ends ≡ knows s used
+  unfolding knows
+  knows-ends! a b = sym (both-true _ _ (not-false (s .walk .ok) a) ∙ both-true _ _ (eq-eqb (s .walk .at) used b))
+
+-- ---- find, for `search`
+
+module _ (used forced : ℕ) (work log : List ℕ) (key : ℕ) where
+  abbrev d : Lent
+  d = lent used forced work [] log []
+
+  refused-as : (r v : ℕ) (x : List ℕ) (u f : ℕ) (y : Left) → y ≡ refused 10 r d → v ≡ r → x ≡ zeroes 10 → u ≡ used → f ≡ forced
+      → left v x (lent u f work [] log []) ≡ y
+  unfolding refused
+  refused-as r v x u f y e a b p q = rw (a, b, p, q) (sym e)
+
+  -- the numbers and the value that the code returns, as it has them
+  module _ (v : ℕ) (x : List ℕ) (u f : ℕ) (p : u ≡ used) (q : f ≡ forced) (z : x ≡ zeroes 10) where
+    pub find-work! : v ≡ 1 → (length work ≡ 16384 → ⊥) → left v x (lent u f work [] log []) ≡ find key d
+    find-work! a b = refused-as 1 v x u f (find key d) (find-unsized key d (two-no-work d b)) a z p q
+
+    pub find-log! : v ≡ 1 → length work ≡ 16384 → (length log ≡ 8192 → ⊥) → left v x (lent u f work [] log []) ≡ find key d
+    find-log! a b c = refused-as 1 v x u f (find key d) (find-unsized key d (two-no-log d b c)) a z p q
+
+    module _ (b : length work ≡ 16384) (c : length log ≡ 8192) (s : Scan) (e : s ≡ scanned forced log) where
+      pub find-form! : v ≡ 2 → knows s used ≡ false → left v x (lent u f work [] log []) ≡ find key d
+      find-form! a k = refused-as 2 v x u f (find key d) (find-unknown key d (two-sized d b c) (knows-no d s e k)) a z p q
+
+      pub find-busy! : v ≡ 9 → knows s used ≡ true → s .walk .opened ≡ true → left v x (lent u f work [] log []) ≡ find key d
+      find-busy! a k o =
+          let g : Knows d s = knows-yes d s e k in
+          let (w, i) = is-open d s g o in
+          refused-as 9 v x u f (find key d) (find-open key d (two-sized d b c) (g .log) (g .is) w i) a z p q
+
+  answered-as : (v : ℕ) (x : List ℕ) (a : Found) → v ≡ replyOf a → x ≡ bytesOf a → left v x d ≡ answered d a
+  unfolding answered refused replyOf bytesOf
+  answered-as v x (missing r) e i = rw (e, i)
+  answered-as v x (found b) e i = rw (e, i)
+
+  pub find-found! : (v : ℕ) (x : List ℕ) (s : Scan) → v ≡ replyOf (lookUp key work) → x ≡ bytesOf (lookUp key work) → s ≡ scanned forced log
+      → length work ≡ 16384 → length log ≡ 8192 → knows s used ≡ true → s .walk .opened ≡ false → left v x d ≡ find key d
+  find-found! v x s e i q b c k o =
+      let g : Knows d s = knows-yes d s q k in
+      answered-as v x (lookUp key work) e i ∙ sym (find-looks key d (two-sized d b c) (g .log) (g .is) (is-shut d s g o))

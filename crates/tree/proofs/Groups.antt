@@ -1,17 +1,16 @@
 -- Build's groups by their place, the entries to them, and the pages of the layout one by one. Assumes nothing.
-use Prim.Native.Nat.{ℕ, zero, suc, _+_, _-_, _*_, _/_, _≤_, _<_, min}
-use native.Mathlib.Nat.{add-zero, zero-add, mul-zero, mul-one, mul-suc, mul-comm, mul-le-mul-left, not-suc-le-zero, le-div-iff-mul-le, div-lt-iff-lt-mul}
+use Prim.Native.Nat.{ℕ, zero, suc, _+_, _-_, _*_, _≤_, _<_, min}
+use native.Mathlib.Nat.{add-zero, zero-add, mul-zero, mul-one, mul-suc, mul-comm, mul-le-mul-left, not-suc-le-zero, le-div-iff-mul-le}
 use native.Mathlib.Numerals.{add-one}
 use native.Mathlib.Omega.{arith}
-use mathlib.Core.Path.{_≡_, refl, sym, ap, ap₂, _∙_}
-use mathlib.Core.Bool.{Bool, true, false}
+use mathlib.Core.Path.{_≡_, refl, sym, ap, _∙_}
 use mathlib.Core.List.{List, [], _∷_, _++_, append-nil}
 use lib.ListN.{length, take, drop, getD, length-take, length-drop}
 use lib.Seq.{drop-drop, ext-getD, getD-take, getD-drop}
-use lib.Dec.{eqb, leb, ltb}
-use borrow.Author.Tests.{eq-eqb, ne-eqb, lt-ltb, le-ltb}
+use lib.Dec.{eqb}
+use borrow.Author.Tests.{eq-eqb, ne-eqb}
 use Rattle.field.specs.Test.{pick}
-use Rattle.field.specs.Bytes.{part, zeroes, Bytes, le2, le4, bytes2, bytes4}
+use Rattle.field.specs.Bytes.{part, zeroes, Bytes, le4, bytes2, bytes4}
 use Rattle.field.proofs.Part.{split, part-part, lent-part}
 use Rattle.field.proofs.Zero.{length-zeroes}
 use Rattle.field.proofs.Test.{pick-either}

@@ -1,8 +1,7 @@
 -- List over all leaf pages: the records of a page, then those behind it. Assumes nothing.
-use Prim.Native.Nat.{ℕ, zero, suc, _+_, _-_, _*_, _≤_, _<_}
-use native.Mathlib.Nat.{mul-le-mul-left}
+use Prim.Native.Nat.{ℕ, zero, suc, _+_, _-_, _*_, _≤_}
 use native.Mathlib.Omega.{arith}
-use mathlib.Core.Path.{_≡_, refl, sym, ap, _∙_}
+use mathlib.Core.Path.{_≡_, refl, ap, _∙_}
 use mathlib.Core.Bool.{Bool, true, false}
 use mathlib.Core.List.{List, [], _∷_, _++_}
 use lib.ListN.{length, take, drop, length-drop}
@@ -12,9 +11,9 @@ use Rattle.page.proofs.Rows.{Each, nil, cons, Long, each-append, long-rowsOf}
 use Rattle.page.proofs.Pages.{getD-pages, lent-page, length-page}
 use Rattle.field.specs.Test.{pick}
 use Rattle.tree.specs.Tree.{under, below, allRecords}
-use Rattle.tree.specs.Answer.{between, inBounds, roomFor, written, countWritten, moreRemain}
-use Rattle.tree.specs.Walk.{Spot, Below, Over, Above}
-use Rattle.tree.specs.Reader.{Sound, fromRoot, behind, toCome, On, Stands, writeAt, countAt, moreAt}
+use Rattle.tree.specs.Answer.{between, inBounds, written, countWritten, moreRemain}
+use Rattle.tree.specs.Walk.{Spot, Below}
+use Rattle.tree.specs.Reader.{Sound, fromRoot, behind, toCome, On}
 use Rattle.tree.specs.declared.walk.Place.{Place}
 use Rattle.tree.proofs.Onward.{come-on, come-end, sound-over, each-under, few-records}
 use Rattle.tree.proofs.Listing.{Same, Ran, between-append, between-few, each-between, same-more, same-stop, same-end, length-write, written-run, count-run-all, more-run, count-small, count-least}

@@ -1,24 +1,24 @@
 -- The layout page by page: each page that the code makes is that page of the layout, and 64 of them are the layout. Assumes nothing.
 use Prim.Native.Nat.{ℕ, zero, suc, _+_, _-_, _*_, _/_, _≤_, _<_, min}
-use native.Mathlib.Nat.{add-zero, zero-add, mul-comm, mul-le-mul-left, not-suc-le-zero, div-le-self}
+use native.Mathlib.Nat.{zero-add, mul-comm, mul-le-mul-left, div-le-self}
 use native.Mathlib.Omega.{arith}
 use mathlib.Core.Path.{_≡_, refl, sym, ap, ap₂, _∙_}
-use mathlib.Core.Bool.{Bool, true, false}
-use mathlib.Core.List.{List, [], _∷_, _++_, map, append-nil, append-assoc}
-use lib.ListN.{length, take, drop, getD, replicate, length-append, length-take, length-drop, length-replicate, getD-replicate, List·getD-append}
+use mathlib.Core.Bool.{Bool, false}
+use mathlib.Core.List.{List, [], _∷_, _++_, map, append-nil}
+use lib.ListN.{length, take, drop, getD, replicate, length-append, length-take, length-replicate, getD-replicate, List·getD-append}
 use lib.Seq.{getD-append-add}
-use lib.Dec.{eqb, leb, ltb}
+use lib.Dec.{eqb, leb}
 use borrow.Author.Tests.{eq-eqb, ne-eqb, lt-ltb, le-ltb, le-leb, lt-leb}
 use Rattle.field.specs.Test.{pick}
-use Rattle.field.specs.Bytes.{part, zeroes, Bytes}
+use Rattle.field.specs.Bytes.{zeroes, Bytes}
 use Rattle.field.proofs.Test.{pick-true, pick-false, pick-either}
 use Rattle.field.proofs.Part.{split}
 use Rattle.field.proofs.Zero.{length-zeroes}
 use Rattle.page.specs.Page.{Kind, root, base, leaf, empty, rowsOf, joined, made}
 use Rattle.page.specs.Pages.{page, putPage}
-use Rattle.page.proofs.Rows.{Each, nil, cons, Long, length-rowsOf, long-rowsOf, length-joined, joined-append, rowsOf-joined, getD-rowsOf}
+use Rattle.page.proofs.Rows.{Each, nil, Long, long-rowsOf, length-joined, joined-append, rowsOf-joined, getD-rowsOf}
 use Rattle.page.proofs.Made.{length-made}
-use Rattle.page.proofs.Pages.{page-putPage-same, page-putPage-other, length-putPage, pages-ext}
+use Rattle.page.proofs.Pages.{page-putPage-same, page-putPage-other, pages-ext}
 use Rattle.tree.specs.Layout.{entriesFrom, fresh, filled, leafGroups, baseGroups, layout}
 use Rattle.tree.specs.Pieces.{pieces, entryRun, Leaves, Buildable, nth, layoutPage}
 use Rattle.tree.proofs.Sound.{each-of}

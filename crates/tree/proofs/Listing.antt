@@ -1,20 +1,20 @@
 -- Records written one after the other while they fit: a run of them, then those behind. Assumes nothing.
 use Prim.Native.Nat.{ℕ, zero, suc, _+_, _-_, _*_, _/_, _≤_, _<_}
-use native.Mathlib.Nat.{not-suc-le-zero, sub-zero, zero-add, add-zero}
+use native.Mathlib.Nat.{sub-zero, zero-add, add-zero}
 use native.Mathlib.Omega.{arith}
 use mathlib.Core.Path.{_≡_, refl, sym, ap, ap₂, _∙_}
 use mathlib.Core.Bool.{Bool, true, false}
 use mathlib.Core.List.{List, [], _∷_, _++_, append-nil}
-use lib.ListN.{length, take, drop, getD, length-append, length-take, length-drop, take-append-drop}
-use lib.Seq.{take-append-le, take-append-add, take-all, length-take-le}
+use lib.ListN.{length, take, drop, length-append, length-take, length-drop, take-append-drop}
+use lib.Seq.{take-append-le, take-append-add, take-all}
 use lib.Dec.{leb, ltb}
 use borrow.Author.Tests.{lt-ltb, le-ltb, le-leb, lt-leb, ltb-true, ltb-false}
 use Rattle.field.specs.Test.{both, pick}
 use Rattle.field.specs.Bytes.{part, put, le4}
-use Rattle.field.proofs.Test.{pick-either, both-true, both-false}
+use Rattle.field.proofs.Test.{pick-either}
 use Rattle.field.proofs.Part.{split, length-part, length-put, put-next, lent-part}
 use Rattle.page.specs.Page.{rowsOf, joined, keyOf}
-use Rattle.page.proofs.Rows.{Each, nil, cons, Long, each-append, length-joined, joined-append, long-rowsOf}
+use Rattle.page.proofs.Rows.{Each, nil, cons, Long, length-joined, joined-append, long-rowsOf}
 use Rattle.page.proofs.Turns.{rows-next}
 use Rattle.tree.specs.Answer.{between, roomFor, written, countWritten, moreRemain}
 use Rattle.tree.specs.Reader.{writeAt, countAt, moreAt}

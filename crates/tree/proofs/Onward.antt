@@ -1,26 +1,24 @@
 -- The walk through all records in key order: what is left at a position, and at the next one. Assumes nothing.
-use Prim.Native.Nat.{ℕ, zero, suc, _+_, _-_, _*_, _≤_, _<_}
-use native.Mathlib.Nat.{not-suc-le-zero, mul-suc, mul-le-mul-left}
+use Prim.Native.Nat.{ℕ, _+_, _-_, _*_, _≤_, _<_}
+use native.Mathlib.Nat.{mul-suc}
 use native.Mathlib.Numerals.{add-one}
 use native.Mathlib.Omega.{arith}
-use mathlib.Core.Path.{_≡_, refl, sym, ap, ap₂, _∙_}
-use mathlib.Core.Bool.{Bool, true, false}
-use mathlib.Core.List.{List, [], _∷_, _++_, append-assoc, append-nil}
-use lib.ListN.{length, take, drop, getD, length-append, length-drop, drop-of-length-le}
+use mathlib.Core.Path.{_≡_, refl, sym, ap, _∙_}
+use mathlib.Core.List.{List, [], _∷_, _++_, append-assoc}
+use lib.ListN.{length, drop, getD, length-append, drop-of-length-le}
 use lib.Seq.{drop-cons}
-use lib.Dec.{eqb}
 use borrow.Author.Tests.{eq-eqb, ne-eqb}
-use Rattle.field.specs.Test.{pick, all}
+use Rattle.field.specs.Test.{all}
 use Rattle.field.specs.Bytes.{part, le2}
 use Rattle.field.proofs.Test.{all-head, pick-true, pick-false}
 use Rattle.field.proofs.Number.{le2-part}
 use Rattle.field.proofs.Part.{part-part}
-use Rattle.page.specs.Page.{rowsOf, toPage, count, rows}
+use Rattle.page.specs.Page.{toPage, count, rows}
 use Rattle.page.specs.Pages.{page, pages}
 use Rattle.page.proofs.Rows.{Each, nil, cons, each-append, each-at, length-rows, page-at, getD-rows}
-use Rattle.page.proofs.Pages.{getD-pages, lent-page, length-page}
-use Rattle.tree.specs.Tree.{under, rootEntries, below, baseEntries, allRecords, pointedOnce, wellFormed}
-use Rattle.tree.specs.Walk.{InForm, Spot, Below, Over, Above}
+use Rattle.page.proofs.Pages.{getD-pages}
+use Rattle.tree.specs.Tree.{under, below, baseEntries, allRecords, wellFormed}
+use Rattle.tree.specs.Walk.{Spot, Below, Over, Above}
 use Rattle.tree.specs.Reader.{Sound, fromRoot, behind, toCome, On, Stands}
 use Rattle.tree.specs.declared.walk.Place.{Place}
 use Rattle.tree.proofs.Sound.{root-entries, root-ordered, all-over, each-map}

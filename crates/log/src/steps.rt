@@ -183,3 +183,20 @@ pub fn step_at(m: &[u8], unit: u32, i: usize) -> Planned
     }
     move_step(base, org, field::get2(m, 40), unit, i)
 }
+
+// How many steps a unit has after its LB: of k leaves, 3 k - 2 in place and 3 k + 1 otherwise; a swap 7, a move 4.
+pub fn step_count(m: &[u8], unit: u32) -> usize
+    requires { ⌜ (44 ≤ length (now m)) × (beginOk (readBegin unit (now m)) ≡ true) ⌝ }
+    ensures { λ r. ⌜ r ≡ length (plan (readBegin unit (now (m .entry)))) ⌝ }
+{
+    let kind = opening::byte_at(m, 16);
+    if kind == 2 {
+        return 7;
+    }
+    if kind == 3 {
+        return 4;
+    }
+    let leaves = opening::byte_at(m, 19);
+    let skip = skipped(field::get2(m, 24), field::get2(m, 40));
+    3 * leaves + 1 - 3 * skip
+}

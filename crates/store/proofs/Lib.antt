@@ -1,6 +1,7 @@
 -- Laws about the calls' definitions: refusals, and each way through a call's tests.
 pub mod Refusals
 pub mod Chain
-pub mod Build
+pub mod Builds
 pub mod Writing
 pub mod Passed
+pub mod Lists

@@ -9,6 +9,12 @@ pub struct Numbers {
     pub forced: u32,
 }
 
+// A reply, and the numbers as they are afterwards.
+pub struct Answer {
+    pub reply: u8,
+    pub numbers: Numbers,
+}
+
 // Test 2: the log in form, used at its end, forced at a record's end.
 pub fn knows(s: Scan, used: u32) -> bool
     ensures { λ r. ⌜ r ≡ knows s used ⌝ }

@@ -2,8 +2,6 @@
 use Rattle.store.proofs.Passed.{knows-broken!, knows-elsewhere!, knows-ends! }
 use Rattle.store.proofs.known.knows.Statement.{statement}
 use Rattle.store.proofs.known.knows.Tie as tie
-use Rattle.store.proofs.known.knows.Reads as reads
-use Rattle.store.proofs.known.knows.Lts as lts
 
 returns : tie.Need-returns
 returns c = search knows-broken!

@@ -7,89 +7,65 @@ use Rattle.store.proofs.Lists.{Says, list-work, list-log, list-form, li
 use borrow.Author.Needs.{needs}
 use Rattle.store.proofs.listing.list.Statement.{statement}
 use Rattle.store.proofs.listing.list.Tie as tie
-use Rattle.store.proofs.listing.list.Reads as reads
-use Rattle.store.proofs.listing.list.Lts as lts
-use Rattle.log.proofs.scan.scan_log.Reads as scan-log-reads
-use Rattle.page.proofs.form.all_formed.Reads as all-formed-reads
-use Rattle.store.proofs.known.knows.Reads as knows-reads
-use Rattle.store.proofs.listing.told.Reads as told-reads
-use Rattle.tree.proofs.list.list_into.Reads as list-into-reads
-use Rattle.tree.proofs.well.well_formed.Reads as well-formed-reads
 
 says : {used forced v n u f r c : ℕ} {more m : Bool} → (v ≡ r) × (n ≡ c) × (more ≡ m) × (u ≡ used) × (f ≡ forced) → Says used forced v n more u f r c m
 says e = record { reply = e .0; count = e .1; more-is = e .2; used-is = e .3; forced-is = e .4 }
 
--- src/listing.rt:38:9
 told-requires : tie.Need-told-requires
 told-requires c κs = search needs
 
--- src/listing.rt:38:9
 returns : tie.Need-returns
 returns c =
     list-work _ _ _ _ _ _ _ _ _ _ _ _ (says (c .told .ensures)) (c .before .if1 .taken)
 
--- src/listing.rt:41:9
 told-requires-2 : tie.Need-told-requires-2
 told-requires-2 c κs = search needs
 
--- src/listing.rt:41:9
 returns-2 : tie.Need-returns-2
 returns-2 c =
     list-log _ _ _ _ _ _ _ _ _ _ _ _ (says (c .told2 .ensures)) (c .before .before .if1 .left) (c .before .if2 .taken)
 
--- src/listing.rt:43:9
 scan-log-requires : tie.Need-scan-log-requires
 scan-log-requires c κs = search needs
 
--- src/listing.rt:44:9
 knows-requires : tie.Need-knows-requires
 knows-requires c κs = search needs
 
--- src/listing.rt:45:9
 told-requires-3 : tie.Need-told-requires-3
 told-requires-3 c κs = search needs
 
--- src/listing.rt:45:9
 returns-3 : tie.Need-returns-3
 returns-3 c =
     list-form _ _ _ _ _ _ _ _ _ _ _ _ (c .before .before .before .before .before .if1 .left) (c .before .before .before .before .if2 .left) _ (c .before .before .before .scan-log .ensures) (says (c .told3 .ensures))
     (sym (c .before .before .knows .ensures) ∙ not-true _ (c .before .if3 .taken))
 
--- src/listing.rt:49:9
 told-requires-4 : tie.Need-told-requires-4
 told-requires-4 c κs = search needs
 
--- src/listing.rt:49:9
 returns-4 : tie.Need-returns-4
 returns-4 c =
     list-busy _ _ _ _ _ _ _ _ _ _ _ _ (c .before .before .before .before .before .before .before .if1 .left) (c .before .before .before .before .before .before .if2 .left) _ (c .before .before .before .before .before .scan-log .ensures)
     (sym (c .before .before .before .before .knows .ensures) ∙ not-false _ (c .before .before .before .if3 .left)) (says (c .told4 .ensures)) (c .before .if4 .taken)
 
--- src/listing.rt:51:9
 all-formed-requires : tie.Need-all-formed-requires
 all-formed-requires c κs = search needs
 
--- src/listing.rt:52:9
 told-requires-5 : tie.Need-told-requires-5
 told-requires-5 c κs = search needs
 
--- src/listing.rt:52:9
 returns-5 : tie.Need-returns-5
 returns-5 c =
     list-pages _ _ _ _ _ _ _ _ _ _ _ _ (c .before .before .before .before .before .before .before .before .before .if1 .left) (c .before .before .before .before .before .before .before .before .if2 .left) _ (c .before .before .before .before .before .before .before .scan-log .ensures)
     (sym (c .before .before .before .before .before .before .knows .ensures) ∙ not-false _ (c .before .before .before .before .before .if3 .left)) (c .before .before .before .if4 .left) (says (c .told5 .ensures))
     (sym (c .before .before .all-formed .ensures) ∙ not-true _ (c .before .if5 .taken))
 
--- src/listing.rt:54:9
 well-formed-requires : tie.Need-well-formed-requires
 well-formed-requires c κs =
     record { whole = c .before .before .before .before .before .before .before .before .if1 .left; forms = sym (c .before .all-formed .ensures) ∙ not-false _ (c .if5 .left) }
 
--- src/listing.rt:55:9
 told-requires-6 : tie.Need-told-requires-6
 told-requires-6 c κs = search needs
 
--- src/listing.rt:55:9
 returns-6 : tie.Need-returns-6
 returns-6 c =
     list-tree _ _ _ _ _ _ _ _ _ _ _ _ (c .before .before .before .before .before .before .before .before .before .before .before .if1 .left) (c .before .before .before .before .before .before .before .before .before .before .if2 .left) _ (c .before .before .before .before .before .before .before .before .before .scan-log .ensures)
@@ -97,7 +73,6 @@ returns-6 c =
     (sym (c .before .before .before .before .all-formed .ensures) ∙ not-false _ (c .before .before .before .if5 .left)) (says (c .told6 .ensures))
     (sym (c .before .before .well-formed .ensures) ∙ not-true _ (c .before .if6 .taken))
 
--- src/listing.rt:57:9
 list-into-requires : tie.Need-list-into-requires
 list-into-requires c κs =
     record {
@@ -105,15 +80,12 @@ list-into-requires c κs =
       well = sym (c .before .before .well-formed .ensures) ∙ not-false _ (c .before .if6 .left);
     }
 
--- src/listing.rt:58:5
 told-requires-7 : tie.Need-told-requires-7
 told-requires-7 c κs = search needs
 
--- src/listing.rt:33:1
 same-length : tie.Need-same-length
 same-length c = search needs
 
--- src/listing.rt:33:1
 returns-7 : tie.Need-returns-7
 returns-7 c =
     let l = c .before .before .before .list-into .ensures in

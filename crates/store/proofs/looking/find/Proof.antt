@@ -5,42 +5,28 @@ use Rattle.store.proofs.Passed.{find-work!, find-log!, find-form!, find
 use borrow.Author.Needs.{needs}
 use Rattle.store.proofs.looking.find.Statement.{statement}
 use Rattle.store.proofs.looking.find.Tie as tie
-use Rattle.store.proofs.looking.find.Reads as reads
-use Rattle.store.proofs.looking.find.Lts as lts
-use Rattle.log.proofs.scan.scan_log.Reads as scan-log-reads
-use Rattle.store.proofs.known.knows.Reads as knows-reads
-use Rattle.store.proofs.looking.without.Reads as without-reads
-use Rattle.tree.proofs.find.look_up.Reads as look-up-reads
 
--- src/looking.rt:32:9
 without-requires : tie.Need-without-requires
 without-requires c κs = search needs
 
--- src/looking.rt:32:9
 returns : tie.Need-returns
 returns c = search find-work!
 
--- src/looking.rt:35:9
 without-requires-2 : tie.Need-without-requires-2
 without-requires-2 c κs = search needs
 
--- src/looking.rt:35:9
 returns-2 : tie.Need-returns-2
 returns-2 c = search find-log!
 
--- src/looking.rt:37:9
 scan-log-requires : tie.Need-scan-log-requires
 scan-log-requires c κs = search needs
 
--- src/looking.rt:38:9
 knows-requires : tie.Need-knows-requires
 knows-requires c κs = search needs
 
--- src/looking.rt:39:9
 without-requires-3 : tie.Need-without-requires-3
 without-requires-3 c κs = search needs
 
--- src/looking.rt:39:9
 returns-3 : tie.Need-returns-3
 returns-3 c =
     let e = c .without3 .ensures in
@@ -49,11 +35,9 @@ returns-3 c =
     find-form! _ _ _ _ _ _ _ _ _ (e .2) (e .3) (e .1) (s .before .before .if1 .left) (s .before .if2 .left) _ (s .scan-log .ensures) (e .0)
     (sym (k .knows .ensures) ∙ not-true _ (c .before .if3 .taken))
 
--- src/looking.rt:43:9
 without-requires-4 : tie.Need-without-requires-4
 without-requires-4 c κs = search needs
 
--- src/looking.rt:43:9
 returns-4 : tie.Need-returns-4
 returns-4 c =
     let e = c .without4 .ensures in
@@ -62,11 +46,9 @@ returns-4 c =
     find-busy! _ _ _ _ _ _ _ _ _ (e .2) (e .3) (e .1) (s .before .before .if1 .left) (s .before .if2 .left) _ (s .scan-log .ensures) (e .0)
     (sym (k .knows .ensures) ∙ not-false _ (c .before .before .before .if3 .left)) (c .before .if4 .taken)
 
--- src/looking.rt:46:16
 look-up-requires : tie.Need-look-up-requires
 look-up-requires c κs = search needs
 
--- src/looking.rt:27:1
 returns-5 : tie.Need-returns-5
 returns-5 c =
     let e = c .look-up .ensures in

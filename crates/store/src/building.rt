@@ -48,7 +48,15 @@ fn new_log(log: &mut [u8])
 }
 
 // A tree of these records, in work and store alike, and a new log.
-pub fn build(n: Numbers, work: &mut [u8], store: &mut [u8], log: &mut [u8], records: &[u8], f: u32, g: u32) -> Answer
+pub fn build(
+    n: Numbers,
+    work: &mut [u8],
+    store: &mut [u8],
+    log: &mut [u8],
+    records: &[u8],
+    f: u32,
+    g: u32,
+) -> Answer
     ensures built { λ r. ⌜ left (r .reply) [] (lent (r .numbers .used) (r .numbers .forced) (now (work .exit)) (now (store .exit)) (now (log .exit)) (now (records .entry)))
         ≡ build f g (lent (n .used) (n .forced) (now (work .entry)) (now (store .entry)) (now (log .entry)) (now (records .entry))) ⌝ }
 {
@@ -76,5 +84,11 @@ pub fn build(n: Numbers, work: &mut [u8], store: &mut [u8], log: &mut [u8], reco
     tree::build::build_pages(work, f, g, records);
     field::copy(store, 0, work);
     new_log(log);
-    Answer { reply: 0, numbers: Numbers { used: 24, forced: 24 } }
+    Answer {
+        reply: 0,
+        numbers: Numbers {
+            used: 24,
+            forced: 24,
+        },
+    }
 }

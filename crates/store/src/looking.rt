@@ -18,7 +18,10 @@ fn without(n: Numbers, reply: u8) -> FindAnswer
     ensures { λ r. ⌜ (r .found .reply ≡ reply) × (r .found .value ≡ zeroes 10) × (r .numbers .used ≡ n .used) × (r .numbers .forced ≡ n .forced) ⌝ }
 {
     FindAnswer {
-        found: Found { reply, value: [0u8; 10] },
+        found: Found {
+            reply,
+            value: [0u8; 10],
+        },
         numbers: n,
     }
 }

@@ -1,20 +1,19 @@
 -- Each way through a call's chain of tests, as a law: which tests held, and what the call then leaves. Code that makes the same tests cites
 -- one law at each of its answers. Assumes nothing.
-use Prim.Native.Nat.{ℕ, _+_, _≤_, _<_}
-use mathlib.Core.Path.{_≡_, refl, sym, ap, _∙_}
-use mathlib.Core.Bool.{Bool, true, false, not}
-use mathlib.Core.List.{List, [], _∷_}
+use Prim.Native.Nat.{ℕ}
+use mathlib.Core.Path.{_≡_, _∙_}
+use mathlib.Core.Bool.{true, false, not}
+use mathlib.Core.List.{[], _∷_}
 use mathlib.Core.Option.{Option, some, none}
 use lib.ListN.{length}
-use lib.Dec.{eqb}
 use borrow.Author.Tests.{eq-eqb, ne-eqb}
-use Rattle.field.specs.Test.{both, all, need, given, there}
+use Rattle.field.specs.Test.{there}
 use Rattle.field.proofs.Test.{both-intro, both-true, both-false, all-true, all-false, all-nil, need-true, need-false, given-some, given-none}
 use Rattle.page.specs.Pages.{pages, allFormed}
-use Rattle.log.specs.Log.{Open, State, Log, atEnd}
+use Rattle.log.specs.Log.{Open, Log, atEnd}
 use Rattle.tree.specs.Tree.{wellFormed}
 use Rattle.tree.specs.Answer.{lookUp, inBounds, written, countWritten, moreRemain}
-use Rattle.store.specs.Calls.{Lent, lent, Left, left, refused, pagesSized, logSized, threeSized, twoSized, known, answered, find, list, force}
+use Rattle.store.specs.Calls.{Lent, lent, left, refused, pagesSized, logSized, threeSized, twoSized, known, answered, find, list, force}
 
 -- ---- lengths
 

@@ -1,24 +1,17 @@
 -- Each way through the tests of flush, checkpoint, step and the begins, as a law. Assumes nothing.
 use Prim.Native.Nat.{ℕ, _+_, _≤_, _<_}
-use mathlib.Core.Path.{_≡_, ap, _∙_}
-use mathlib.Core.Bool.{Bool, true, false, not}
-use mathlib.Core.List.{List, [], _∷_}
-use mathlib.Core.Option.{Option, some, none}
-use lib.ListN.{length}
-use lib.Dec.{leb, ltb}
+use mathlib.Core.Path.{_≡_, _∙_}
+use mathlib.Core.Bool.{Bool, true, false}
+use mathlib.Core.List.{[]}
+use mathlib.Core.Option.{some, none}
+use lib.Dec.{leb}
 use borrow.Author.Tests.{le-leb, lt-leb, lt-ltb, le-ltb}
-use Rattle.field.specs.Test.{both, need, given}
-use Rattle.field.specs.Bytes.{put, same, most4}
+use Rattle.field.specs.Bytes.{same, most4}
 use Rattle.field.proofs.Test.{need-true, need-false, given-some, given-none}
 use Rattle.page.specs.Page.{number}
-use Rattle.page.specs.Pages.{page, putPage, pages, allFormed}
-use Rattle.log.specs.Record.{Begin, LB, size, encode}
-use Rattle.log.specs.Plan.{Step, plan}
-use Rattle.log.specs.Log.{Open, State, Log, atEnd, lastForced}
-use Rattle.tree.specs.Tree.{wellFormed}
-use Rattle.unit.specs.Choice.{compactUnit, orderUnit}
-use Rattle.unit.specs.Next.{room}
-use Rattle.store.specs.Calls.{Lent, lent, Left, left, refused, threeSized, twoSized, known, newLog, logLength, checkpointed, flush, checkpoint, stepWith, stepped, step, begun, beginWith, beginCompact, beginOrder}
+use Rattle.page.specs.Pages.{page, putPage}
+use Rattle.log.specs.Log.{Open, Log, atEnd, lastForced}
+use Rattle.store.specs.Calls.{Lent, lent, left, refused, threeSized, known, newLog, checkpointed, flush, checkpoint}
 use Rattle.store.proofs.Chain.{not-there, is-there}
 
 -- ---- flush

@@ -1,4 +1,6 @@
 -- The tree in the pages: its form, its leaves in key order, what find and list answer, what build lays out.
 pub mod Tree
 pub mod Answer
+pub mod Way
+pub mod Walk
 pub mod Layout

@@ -1,4 +1,7 @@
--- The log: how each record is written, the steps of a unit, and how a log is read.
+-- The log: how each record is written, the table of record kinds, the steps of a unit, and how a log is read.
 pub mod Record
+pub mod Table
+pub mod Write
 pub mod Plan
 pub mod Log
+pub mod Stand

@@ -1,1 +1,5 @@
-// x
+// The log: the table of record kinds, writing a record, and reading a whole log in one pass.
+pub mod kind;
+pub mod opening;
+pub mod reading;
+pub mod writing;

@@ -1,0 +1,118 @@
+-- Writes one after the other are one write of all their bytes: how the code writes a record. Assumes nothing.
+use Prim.Native.Nat.{ℕ, zero, suc, _+_, _-_, _*_, _≤_, _<_}
+use native.Mathlib.Nat.{add-zero, add-assoc}
+use native.Mathlib.Omega.{arith}
+use mathlib.Core.Path.{_≡_, refl, sym, ap, _∙_}
+use mathlib.Core.Bool.{Bool, true, false}
+use mathlib.Core.List.{List, [], _∷_, _++_, append-nil}
+use mathlib.Core.Option.{Option, some, none}
+use lib.ListN.{length, take, drop, set, take-append-drop, length-append}
+use lib.Dec.{eqb}
+use lib.Seq.{take-all}
+use borrow.Author.Tests.{eq-eqb, ne-eqb}
+use Rattle.field.specs.Test.{pick}
+use Rattle.field.specs.Bytes.{put, bytes2, bytes4, zeroes}
+use Rattle.field.proofs.Part.{put-next, length-put}
+use Rattle.page.specs.Page.{joined, rowsOf}
+use Rattle.page.proofs.Rows.{joined-rowsOf, length-rowsOf}
+use Rattle.log.specs.Record.{Kind, check, begin, out, into, modify, end, lengthOf, Check, Begin, Rec, LB, LO, LI, LM, LE, kindOf, carried, size, header, lkBytes, encodeCheck, newKey, body, previous, encode}
+use Rattle.log.specs.Table.{kindAt, kinds}
+use Rattle.log.specs.Write.{unitHead, paged, inBytes, lkOf, checkOf}
+
+-- the runs bs written one behind the other, the first at the offset at + o
+abbrev pub puts : (at o : ℕ) → List (List ℕ) → List ℕ → List ℕ
+puts at o [] l = l
+puts at o (b ∷ bs) l = puts at (o + length b) bs (put (at + o) b l)
+
+put-nil : (i : ℕ) (l : List ℕ) → put i [] l ≡ l
+unfolding put
+put-nil i l = rw (add-zero i) (take-append-drop i l)
+
+pub puts-put : (at o : ℕ) (bs : List (List ℕ)) (l : List ℕ) → at + o + length (joined bs) ≤ length l → puts at o bs l ≡ put (at + o) (joined bs) l
+unfolding joined
+puts-put at o [] l h = sym (put-nil (at + o) l)
+puts-put at o (b ∷ bs) l h =
+    let e : length (b ++ joined bs) ≡ length b + length (joined bs) = length-append b (joined bs) in
+    let p : length (put (at + o) b l) ≡ length l = length-put (at + o) b l (omega arith) in
+    puts-put at (o + length b) bs (put (at + o) b l) (omega arith)
+    ∙ rw (← add-assoc at o (length b)) (put-next (at + o) b (joined bs) l (omega arith))
+
+-- from the offset itself on
+pub puts-all : (at : ℕ) (bs : List (List ℕ)) (l m : List ℕ) → joined bs ≡ m → at + length m ≤ length l → puts at 0 bs l ≡ put at m l
+puts-all at bs l m e h =
+    let k : at + 0 + length (joined bs) ≤ length l = rw e (omega arith) in
+    puts-put at 0 bs l k ∙ rw (add-zero at, e)
+
+-- an LO is its front and its records
+pub encode-out : (n org dest : ℕ) (rs : List (List ℕ)) → encode n (LO org dest rs) ≡ paged (kindAt 2) (length rs) n org dest (length rs) ++ joined rs
+unfolding encode body previous kindOf size carried paged header bytes2 bytes4 kindAt kinds
+encode-out n org dest rs = refl
+
+-- ---- the runs that the code writes, in order
+
+module _ (l : List ℕ) (at : ℕ) where
+  pub header-puts : (c : Kind) (long n before : ℕ) → at + 12 ≤ length l
+      → put (at + 8) (bytes4 before) (put (at + 4) (bytes4 n) (put (at + 2) (bytes2 long) (put at (76 ∷ c .sign ∷ []) l))) ≡ put at (header c long n before) l
+  unfolding header bytes2 bytes4 joined
+  header-puts c long n before h =
+      rw (← puts-all at ((76 ∷ c .sign ∷ []) ∷ bytes2 long ∷ bytes4 n ∷ bytes4 before ∷ []) l (header c long n before) refl h, add-zero at)
+
+  pub unit-puts : (c : Kind) (n before unit : ℕ) → at + 16 ≤ length l
+      → put (at + 12) (bytes4 unit) (put at (header c (lengthOf c 0) n before) l) ≡ put at (unitHead c n before unit) l
+  unfolding unitHead header bytes2 bytes4 joined
+  unit-puts c n before unit h =
+      rw (← puts-all at (header c (lengthOf c 0) n before ∷ bytes4 unit ∷ []) l (unitHead c n before unit) refl h, add-zero at)
+
+  pub paged-puts : (d : Kind) (k n a b c : ℕ) → at + 20 ≤ length l
+      → put (at + 18) (bytes2 0) (put (at + 16) (bytes2 c) (put (at + 14) (bytes2 b) (put (at + 12) (bytes2 a) (put at (header d (lengthOf d k) n (n - 1)) l))))
+      ≡ put at (paged d k n a b c) l
+  unfolding paged header bytes2 bytes4 joined
+  paged-puts d k n a b c h =
+      rw (← puts-all at (header d (lengthOf d k) n (n - 1) ∷ bytes2 a ∷ bytes2 b ∷ bytes2 c ∷ bytes2 0 ∷ []) l (paged d k n a b c) refl h, add-zero at)
+
+  pub in-puts : (n org dest back k : ℕ) → at + 24 ≤ length l
+      → put (at + 20) (bytes4 (n - back)) (put at (paged (kindAt 3) 0 n org dest k) l) ≡ put at (inBytes n org dest back k) l
+  unfolding inBytes paged header bytes2 bytes4 joined kindAt kinds
+  in-puts n org dest back k h =
+      rw (← puts-all at (paged into 0 n org dest k ∷ bytes4 (n - back) ∷ []) l (inBytes n org dest back k) refl h, add-zero at)
+
+  pub modify-puts : (n base old new key : ℕ) → at + 28 ≤ length l
+      → put (at + 24) (bytes4 (newKey new key)) (put (at + 20) (bytes4 key) (put at (paged (kindAt 4) 0 n base old new) l)) ≡ put at (encode n (LM base old new key)) l
+  unfolding encode body previous kindOf size carried paged header bytes2 bytes4 joined kindAt kinds
+  modify-puts n base old new key h =
+      rw (← puts-all at (paged modify 0 n base old new ∷ bytes4 key ∷ bytes4 (newKey new key) ∷ []) l (encode n (LM base old new key)) refl h, add-zero at)
+
+  pub out-puts : (n org dest k : ℕ) (rs : List ℕ) → length rs ≡ 16 * k → at + 20 + 16 * k ≤ length l
+      → put (at + 20) rs (put at (paged (kindAt 2) k n org dest k) l) ≡ put at (encode n (LO org dest (rowsOf 16 k rs))) l
+  out-puts n org dest k rs e h =
+      let q : joined (rowsOf 16 k rs) ≡ rs = joined-rowsOf 16 k rs ∙ take-all (16 * k) rs (omega arith) in
+      let m : length (rowsOf 16 k rs) ≡ k = length-rowsOf 16 k rs in
+      let f : encode n (LO org dest (rowsOf 16 k rs)) ≡ paged (kindAt 2) k n org dest k ++ rs = encode-out n org dest (rowsOf 16 k rs) ∙ rw (m, q) in
+      let w : length (paged (kindAt 2) k n org dest k) ≡ 20 = unfold paged header bytes2 bytes4 in refl in
+      rw (f, ← w) (put-next at (paged (kindAt 2) k n org dest k) rs l (omega arith))
+
+-- LK as two numbers of four bytes: whether it is there, and the key
+lk-runs : (there : Bool) (key : ℕ) → lkBytes (lkOf there key) ≡ bytes4 (pick there 1 0) ++ bytes4 (pick there key 0)
+unfolding lkBytes lkOf pick bytes4 zeroes
+lk-runs true key = refl
+lk-runs false key = refl
+
+pub check-puts : (l : List ℕ) (n unit : ℕ) (there : Bool) (key : ℕ) → 24 ≤ length l
+    → put 20 (bytes4 (pick there key 0)) (put 16 (bytes4 (pick there 1 0)) (put 12 (bytes4 unit) (put 0 (header (kindAt 0) (lengthOf (kindAt 0) 0) n 0) l)))
+    ≡ put 0 (encodeCheck (checkOf n unit there key)) l
+unfolding header bytes2 bytes4 joined kindAt kinds
+check-puts l n unit there key h =
+    let e : encodeCheck (checkOf n unit there key) ≡ header check (lengthOf check 0) n 0 ++ (bytes4 unit ++ (bytes4 (pick there 1 0) ++ bytes4 (pick there key 0))) =
+    unfold encodeCheck checkOf in rw (lk-runs there key) in
+    let k : 0 + length (header check (lengthOf check 0) n 0 ++ (bytes4 unit ++ (bytes4 (pick there 1 0) ++ bytes4 (pick there key 0)))) ≤ length l = h in
+    rw e (puts-all 0 (header check (lengthOf check 0) n 0 ∷ bytes4 unit ∷ bytes4 (pick there 1 0) ∷ bytes4 (pick there key 0) ∷ []) l _ refl k)
+
+-- an LE is a header and its unit number
+pub encode-end : (n unit : ℕ) → encode n (LE unit) ≡ unitHead (kindAt 5) n (n - 1) unit
+unfolding encode body previous kindOf size carried unitHead kindAt kinds
+encode-end n unit = refl
+
+-- an LI says of its records only how many they are
+pub encode-in : (n org dest back : ℕ) (rs : List (List ℕ)) → encode n (LI org dest back rs) ≡ inBytes n org dest back (length rs)
+unfolding encode body previous kindOf size carried inBytes paged header bytes2 bytes4
+encode-in n org dest back rs = refl

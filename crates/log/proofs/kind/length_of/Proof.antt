@@ -1,0 +1,56 @@
+-- `log::kind::length_of` meets its contract. Assumes nothing.
+use native.Mathlib.Omega.{arith}
+use mathlib.Core.Path.{_∙_}
+use Rattle.log.proofs.Table.{each-small, fixed-small, length-is}
+use borrow.Author.Needs.{needs}
+use Rattle.log.proofs.kind.length_of.Statement.{statement}
+use Rattle.log.proofs.kind.length_of.Tie as tie
+
+mul-cell : tie.Need-mul-cell
+mul-cell c = search needs
+
+add-cell : tie.Need-add-cell
+add-cell c = search needs
+
+cell-requires : tie.Need-cell-requires
+cell-requires c κs = search needs
+
+wide-requires : tie.Need-wide-requires
+wide-requires c κs = search needs
+
+mul-cell-2 : tie.Need-mul-cell-2
+mul-cell-2 c = search needs
+
+add-cell-2 : tie.Need-add-cell-2
+add-cell-2 c = search needs
+
+cell-requires-2 : tie.Need-cell-requires-2
+cell-requires-2 c κs = search needs
+
+wide-requires-2 : tie.Need-wide-requires-2
+wide-requires-2 c κs = search needs
+
+mul-result : tie.Need-mul-result
+mul-result c = let a = c .before .before .before .before in omega (arith, each-small (a .args .k) (a .args .n) (c .wide2 .result) (a .pre .0) (a .pre .1) (c .wide2 .ensures ∙ c .before .cell2 .ensures))
+
+add-result : tie.Need-add-result
+add-result c = let a = c .before .before .before .before in omega (arith, each-small (a .args .k) (a .args .n) (c .wide2 .result) (a .pre .0) (a .pre .1) (c .wide2 .ensures ∙ c .before .cell2 .ensures), fixed-small (a .args .k) (c .before .before .wide .result) (a .pre .0) (c .before .before .wide .ensures ∙ c .before .before .before .cell .ensures))
+
+returns : tie.Need-returns
+returns c = let a = c .before .before .before .before in length-is (a .args .k) (a .args .n) (c .before .before .wide .result) (c .wide2 .result) (a .pre .0) (c .before .before .wide .ensures ∙ c .before .before .before .cell .ensures) (c .wide2 .ensures ∙ c .before .cell2 .ensures)
+
+pub length-of-spec : {M : Type 1} → statement M
+length-of-spec =
+    tie.close
+    (tie.spec
+    mul-cell
+    add-cell
+    cell-requires
+    wide-requires
+    mul-cell-2
+    add-cell-2
+    cell-requires-2
+    wide-requires-2
+    mul-result
+    add-result
+    returns)

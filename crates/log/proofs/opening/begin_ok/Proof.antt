@@ -1,0 +1,59 @@
+-- `log::opening::begin_ok` meets its contract: each test that fails ends it. Assumes nothing.
+use native.Mathlib.Omega.{arith}
+use Rattle.log.proofs.Begun.{type-counts, begin-type!, begin-bases!, begin-differ!, begin-leaves!, begin-rest! }
+use borrow.Author.Needs.{needs}
+use Rattle.log.proofs.opening.begin_ok.Statement.{statement}
+use Rattle.log.proofs.opening.begin_ok.Tie as tie
+
+byte-at-requires : tie.Need-byte-at-requires
+byte-at-requires c κs = search needs
+
+byte-at-requires-2 : tie.Need-byte-at-requires-2
+byte-at-requires-2 c κs = search needs
+
+type-ok-requires : tie.Need-type-ok-requires
+type-ok-requires c κs = search needs
+
+returns : tie.Need-returns
+returns c = search begin-type!
+
+within-requires : tie.Need-within-requires
+within-requires c κs = omega (arith, type-counts (c .before .before .before .before .before .args .m .now) _ (c .before .type-ok .ensures) (c .if1 .left))
+
+returns-2 : tie.Need-returns-2
+returns-2 c = search begin-bases!
+
+differ-requires : tie.Need-differ-requires
+differ-requires c κs = omega (arith, type-counts (c .before .before .before .before .before .before .before .args .m .now) _ (c .before .before .before .type-ok .ensures) (c .before .before .if1 .left))
+
+returns-3 : tie.Need-returns-3
+returns-3 c = search begin-differ!
+
+within-requires-2 : tie.Need-within-requires-2
+within-requires-2 c κs = omega (arith, type-counts (c .before .before .before .before .before .before .before .before .before .args .m .now) _ (c .before .before .before .before .before .type-ok .ensures) (c .before .before .before .before .if1 .left))
+
+returns-4 : tie.Need-returns-4
+returns-4 c = search begin-leaves!
+
+differ-requires-2 : tie.Need-differ-requires-2
+differ-requires-2 c κs = omega (arith, type-counts (c .before .before .before .before .before .before .before .before .before .before .before .args .m .now) _ (c .before .before .before .before .before .before .before .type-ok .ensures) (c .before .before .before .before .before .before .if1 .left))
+
+returns-5 : tie.Need-returns-5
+returns-5 c = search begin-rest!
+
+pub begin-ok-spec : {M : Type 1} → statement M
+begin-ok-spec =
+    tie.close
+    (tie.spec
+    byte-at-requires
+    byte-at-requires-2
+    type-ok-requires
+    returns
+    within-requires
+    returns-2
+    differ-requires
+    returns-3
+    within-requires-2
+    returns-4
+    differ-requires-2
+    returns-5)

@@ -1,0 +1,42 @@
+-- `log::opening::type_ok` meets its contract: each test that fails ends it. Assumes nothing.
+use Rattle.log.proofs.Typed.{type-compact!, type-swap!, type-move!, type-none! }
+use borrow.Author.Needs.{needs}
+use Rattle.log.proofs.opening.type_ok.Statement.{statement}
+use Rattle.log.proofs.opening.type_ok.Tie as tie
+
+byte-at-requires : tie.Need-byte-at-requires
+byte-at-requires c κs = search needs
+
+compact-ok-requires : tie.Need-compact-ok-requires
+compact-ok-requires c κs = search needs
+
+returns : tie.Need-returns
+returns c = search type-compact!
+
+swap-ok-requires : tie.Need-swap-ok-requires
+swap-ok-requires c κs = search needs
+
+returns-2 : tie.Need-returns-2
+returns-2 c = search type-swap!
+
+move-ok-requires : tie.Need-move-ok-requires
+move-ok-requires c κs = search needs
+
+returns-3 : tie.Need-returns-3
+returns-3 c = search type-move!
+
+returns-4 : tie.Need-returns-4
+returns-4 c = search type-none!
+
+pub type-ok-spec : {M : Type 1} → statement M
+type-ok-spec =
+    tie.close
+    (tie.spec
+    byte-at-requires
+    compact-ok-requires
+    returns
+    swap-ok-requires
+    returns-2
+    move-ok-requires
+    returns-3
+    returns-4)

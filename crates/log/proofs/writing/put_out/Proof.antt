@@ -1,0 +1,23 @@
+-- `log::writing::put_out` meets its contract. Assumes nothing.
+use Rattle.log.proofs.Puts.{out-puts}
+use borrow.Author.Needs.{needs}
+use Rattle.log.proofs.writing.put_out.Statement.{statement}
+use Rattle.log.proofs.writing.put_out.Tie as tie
+
+put-paged-requires : tie.Need-put-paged-requires
+put-paged-requires c κs = search needs
+
+add-copy : tie.Need-add-copy
+add-copy c = search needs
+
+copy-requires : tie.Need-copy-requires
+copy-requires c κs = search needs
+
+same-length : tie.Need-same-length
+same-length c = search needs
+
+returns : tie.Need-returns
+returns c = let a = c .before .before .before .before .before .before .before .before .before .before in cc (out-puts (a .args .s .now) (a .args .at) (a .args .n) (a .args .org) (a .args .dest) (a .args .k) (a .args .rs .now) (a .pre .1) (a .pre .0 .2))
+
+pub put-out-spec : {M : Type 1} → statement M
+put-out-spec = tie.close (tie.spec put-paged-requires add-copy copy-requires same-length returns)

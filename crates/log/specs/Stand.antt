@@ -1,0 +1,43 @@
+-- The tests of one record, as one Bool each: what `readRec` asks of the record that must come next. Assumes nothing.
+use Prim.Native.Nat.{ℕ, _+_, _-_, _*_}
+use mathlib.Core.Bool.{Bool, true, false}
+use mathlib.Core.List.{List, [], _∷_}
+use mathlib.Core.Option.{Option, some, none}
+use lib.ListN.{length, drop, getD}
+use lib.Dec.{leb}
+use Rattle.field.specs.Test.{both, all, given}
+use Rattle.field.specs.Bytes.{part, allZero, starts, le2, le4, most4}
+use Rattle.page.specs.Page.{rowsOf, ascendRecords}
+use Rattle.log.specs.Record.{Begin, Rec, LB, LO, LM, into, lengthOf, size, encode}
+use Rattle.log.specs.Write.{inBytes}
+use Rattle.log.specs.Log.{readBegin, beginOk}
+
+-- the record with the log number n stands at the front of l, all of it
+unfoldable pub stands : (n : ℕ) → Rec → (l : List ℕ) → Bool
+stands n r l = all (leb n most4 ∷ leb (size r) (length l) ∷ starts (encode n r) l ∷ [])
+
+-- the same of an LI of k records
+unfoldable pub standsIn : (n org dest back k : ℕ) → (l : List ℕ) → Bool
+standsIn n org dest back k l = all (leb n most4 ∷ leb (lengthOf into 0) (length l) ∷ starts (inBytes n org dest back k) l ∷ [])
+
+-- the same of an LM, whatever its key
+unfoldable pub standsModify : (n base old new : ℕ) → (l : List ℕ) → Bool
+standsModify n base old new l = stands n (LM base old new (le4 l 20)) l
+
+-- the same of an LO of 1 to 15 records that bear marks and ascend
+unfoldable pub standsOut : (n org dest : ℕ) → (l : List ℕ) → Bool
+standsOut n org dest l =
+    let k : ℕ = le2 l 16 in
+    let rs : List (List ℕ) = rowsOf 16 k (drop 20 l) in
+    both (all (leb 1 k ∷ leb k 15 ∷ ascendRecords 0 rs ∷ [])) (stands n (LO org dest rs) l)
+
+-- the same of an LB of this unit
+unfoldable pub standsBegin : (n unit : ℕ) → (l : List ℕ) → Bool
+standsBegin n u l = let g : Begin = readBegin u l in both (beginOk g) (stands n (LB g) l)
+
+-- the fields that a begin record leaves unused are zero: behind its bases, behind its leaves, and its last
+unfoldable pub spareZero : (l : List ℕ) → Bool
+spareZero l =
+    let b : ℕ = 20 + 2 * getD l 18 0 in
+    let c : ℕ = 24 + 2 * getD l 19 0 in
+    all (allZero (part b (24 - b) l) ∷ allZero (part c (40 - c) l) ∷ allZero (part 42 2 l) ∷ [])

@@ -1,0 +1,200 @@
+// Whether a begin record keeps the rules of its type. Each function is lent the log's bytes from the record on.
+ghost use mathlib.Core.Path.{_≡_};
+ghost use Prim.Native.Nat.{_+_, _-_, _*_, _≤_, _<_};
+ghost use lib.ListN.{length, drop, getD};
+ghost use Rattle.log.specs.Stand.{spareZero};
+ghost use Rattle.log.specs.Log.{within, listed, differ, compactOk, swapOk, moveOk, typeOk, beginOk, readFields, readBegin};
+
+// The byte at an offset, as a count.
+pub fn byte_at(m: &[u8], i: usize) -> usize
+    requires { ⌜ i < length (now m) ⌝ }
+    ensures { λ r. ⌜ (r ≡ getD (now (m .entry)) i 0) × (r < 256) ⌝ }
+{
+    m[i] as usize
+}
+
+// Whether n listed pages lie in from .. to.
+fn within(m: &[u8], from: u16, to: u16, start: usize, n: usize) -> bool
+    requires { ⌜ start + 2 * n ≤ length (now m) ⌝ }
+    ensures { λ r. ⌜ r ≡ within from to (readFields n (drop start (now (m .entry)))) ⌝ }
+{
+    let mut at = start;
+    let mut left = n;
+    while 0 < left {
+        let p = field::get2(m, at);
+        if p < from {
+            return false;
+        }
+        if to < p {
+            return false;
+        }
+        at += 2;
+        left -= 1;
+    }
+    true
+}
+
+// Whether the page p is among n listed pages.
+fn listed(m: &[u8], p: u16, start: usize, n: usize) -> bool
+    requires { ⌜ start + 2 * n ≤ length (now m) ⌝ }
+    ensures { λ r. ⌜ r ≡ listed p (readFields n (drop start (now (m .entry)))) ⌝ }
+{
+    let mut at = start;
+    let mut left = n;
+    while 0 < left {
+        if p == field::get2(m, at) {
+            return true;
+        }
+        at += 2;
+        left -= 1;
+    }
+    false
+}
+
+// Whether n listed pages differ.
+fn differ(m: &[u8], start: usize, n: usize) -> bool
+    requires { ⌜ start + 2 * n ≤ length (now m) ⌝ }
+    ensures { λ r. ⌜ r ≡ differ (readFields n (drop start (now (m .entry)))) ⌝ }
+{
+    let mut at = start;
+    let mut left = n;
+    while 0 < left {
+        let p = field::get2(m, at);
+        if listed(m, p, at + 2, left - 1) {
+            return false;
+        }
+        at += 2;
+        left -= 1;
+    }
+    true
+}
+
+// Whether a compact lists 2 to 8 leaves and one base, its fill is 1..15, and its destination is the first listed or unlisted.
+fn compact_ok(m: &[u8]) -> bool
+    requires { ⌜ 44 ≤ length (now m) ⌝ }
+    ensures { λ r. ⌜ r ≡ compactOk (readBegin 0 (now (m .entry))) ⌝ }
+{
+    if byte_at(m, 18) != 1 {
+        return false;
+    }
+    let leaves = byte_at(m, 19);
+    if leaves < 2 {
+        return false;
+    }
+    if 8 < leaves {
+        return false;
+    }
+    let fill = byte_at(m, 17);
+    if fill < 1 {
+        return false;
+    }
+    if 15 < fill {
+        return false;
+    }
+    if !within(m, 8, 63, 40, 1) {
+        return false;
+    }
+    let dest = field::get2(m, 40);
+    if dest == field::get2(m, 24) {
+        return true;
+    }
+    !listed(m, dest, 24, leaves)
+}
+
+// Whether a swap lists two leaves and one base or two, no fill, destination 0.
+fn swap_ok(m: &[u8]) -> bool
+    requires { ⌜ 44 ≤ length (now m) ⌝ }
+    ensures { λ r. ⌜ r ≡ swapOk (readBegin 0 (now (m .entry))) ⌝ }
+{
+    let bases = byte_at(m, 18);
+    if bases < 1 {
+        return false;
+    }
+    if 2 < bases {
+        return false;
+    }
+    if byte_at(m, 19) != 2 {
+        return false;
+    }
+    if byte_at(m, 17) != 0 {
+        return false;
+    }
+    field::get2(m, 40) == 0
+}
+
+// Whether a move lists one leaf and one base, no fill, and its destination is another leaf page.
+fn move_ok(m: &[u8]) -> bool
+    requires { ⌜ 44 ≤ length (now m) ⌝ }
+    ensures { λ r. ⌜ r ≡ moveOk (readBegin 0 (now (m .entry))) ⌝ }
+{
+    if byte_at(m, 18) != 1 {
+        return false;
+    }
+    if byte_at(m, 19) != 1 {
+        return false;
+    }
+    if byte_at(m, 17) != 0 {
+        return false;
+    }
+    if !within(m, 8, 63, 40, 1) {
+        return false;
+    }
+    let dest = field::get2(m, 40);
+    !listed(m, dest, 24, 1)
+}
+
+// Whether the rules of the record's type hold.
+fn type_ok(m: &[u8]) -> bool
+    requires { ⌜ 44 ≤ length (now m) ⌝ }
+    ensures { λ r. ⌜ r ≡ typeOk (readBegin 0 (now (m .entry))) ⌝ }
+{
+    let kind = byte_at(m, 16);
+    if kind == 1 {
+        return compact_ok(m);
+    }
+    if kind == 2 {
+        return swap_ok(m);
+    }
+    if kind == 3 {
+        return move_ok(m);
+    }
+    false
+}
+
+// Whether a begin record keeps all rules but those of its header, its unit number and its unused fields.
+pub fn begin_ok(m: &[u8]) -> bool
+    requires { ⌜ 44 ≤ length (now m) ⌝ }
+    ensures { λ r. ⌜ r ≡ beginOk (readBegin 0 (now (m .entry))) ⌝ }
+{
+    let bases = byte_at(m, 18);
+    let leaves = byte_at(m, 19);
+    if !type_ok(m) {
+        return false;
+    }
+    if !within(m, 1, 7, 20, bases) {
+        return false;
+    }
+    if !differ(m, 20, bases) {
+        return false;
+    }
+    if !within(m, 8, 63, 24, leaves) {
+        return false;
+    }
+    differ(m, 24, leaves)
+}
+
+// Whether the fields that a begin record leaves unused are zero.
+pub fn spare_zero(m: &[u8]) -> bool
+    requires { ⌜ (44 ≤ length (now m)) × (getD (now m) 18 0 ≤ 2) × (getD (now m) 19 0 ≤ 8) ⌝ }
+    ensures { λ r. ⌜ r ≡ spareZero (now (m .entry)) ⌝ }
+{
+    let bases = 20 + 2 * byte_at(m, 18);
+    let leaves = 24 + 2 * byte_at(m, 19);
+    if !field::zeros(&m[bases..24]) {
+        return false;
+    }
+    if !field::zeros(&m[leaves..40]) {
+        return false;
+    }
+    field::zeros(&m[42..44])
+}

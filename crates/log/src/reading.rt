@@ -1,0 +1,168 @@
+// Whether a record stands at an offset of the log: the record that must stand there is written into a few bytes, and these are compared.
+ghost use mathlib.Core.Path.{_≡_};
+ghost use Prim.Native.Nat.{_+_, _-_, _*_, _≤_, _<_};
+ghost use lib.ListN.{length, take, drop};
+ghost use lib.Dec.{leb};
+ghost use Rattle.field.specs.Test.{pick};
+ghost use Rattle.field.specs.Bytes.{starts};
+ghost use Rattle.page.specs.Page.{rowsOf, ascend};
+ghost use Rattle.log.specs.Log.{largest};
+ghost use Rattle.log.specs.Record.{LE};
+ghost use Rattle.log.specs.Stand.{stands, standsIn, standsModify, standsOut, standsBegin};
+use crate::kind;
+use crate::opening;
+use crate::writing;
+
+// Whether the first n bytes of b stand in l from the offset at.
+fn same_at(l: &[u8], at: usize, b: &[u8], n: usize) -> bool
+    requires { ⌜ (n ≤ length (now b)) × (at + n ≤ length (now l)) ⌝ }
+    ensures { λ r. ⌜ r ≡ starts (take n (now (b .entry))) (drop at (now (l .entry))) ⌝ }
+{
+    let mut i = 0;
+    while i < n {
+        if l[at + i] != b[i] {
+            return false;
+        }
+        i += 1;
+    }
+    true
+}
+
+// Whether the LE of this unit stands there, with the log number n.
+fn is_end(l: &[u8], at: usize, n: u32, unit: u32) -> bool
+    requires { ⌜ (at ≤ length (now l)) × (1 ≤ n) ⌝ }
+    ensures { λ r. ⌜ r ≡ stands n (LE unit) (drop at (now (l .entry))) ⌝ }
+{
+    let long = kind::size_of(kind::LE, 0);
+    if l.len() - at < long {
+        return false;
+    }
+    let mut b = [0u8; 28];
+    writing::put_end(&mut b, 0, n, unit);
+    same_at(l, at, &b, long)
+}
+
+// Whether an LM of these pages stands there, whatever its key.
+fn is_modify(l: &[u8], at: usize, n: u32, base: u16, old: u16, new: u16) -> bool
+    requires { ⌜ (at ≤ length (now l)) × (1 ≤ n) ⌝ }
+    ensures { λ r. ⌜ r ≡ standsModify n base old new (drop at (now (l .entry))) ⌝ }
+{
+    let long = kind::size_of(kind::LM, 0);
+    if l.len() - at < long {
+        return false;
+    }
+    let key = field::get4(l, at + 20);
+    let mut b = [0u8; 28];
+    writing::put_modify(&mut b, 0, n, base, old, new, key);
+    same_at(l, at, &b, long)
+}
+
+// Whether an LI of these pages stands there, of as many records as its LO, which stands `back` records before.
+fn is_in(l: &[u8], at: usize, n: u32, org: u16, dest: u16, back: u32, rows: u16) -> bool
+    requires { ⌜ (at ≤ length (now l)) × (1 ≤ n) × (back ≤ n) ⌝ }
+    ensures { λ r. ⌜ r ≡ standsIn n org dest back rows (drop at (now (l .entry))) ⌝ }
+{
+    let long = kind::size_of(kind::LI, 0);
+    if l.len() - at < long {
+        return false;
+    }
+    let mut b = [0u8; 28];
+    writing::put_in(&mut b, 0, n, org, dest, rows, back);
+    same_at(l, at, &b, long)
+}
+
+// Whether an LB of this unit stands at the front of m.
+pub fn is_begin(m: &[u8], n: u32, unit: u32) -> bool
+    ensures { λ r. ⌜ r ≡ standsBegin n unit (now (m .entry)) ⌝ }
+{
+    if m.len() < kind::size_of(kind::LB, 0) {
+        return false;
+    }
+    if !opening::begin_ok(m) {
+        return false;
+    }
+    if !opening::spare_zero(m) {
+        return false;
+    }
+    let mut b = [0u8; 28];
+    writing::put_unit(&mut b, 0, kind::LB, n, 0, unit);
+    same_at(m, 0, &b, 16)
+}
+
+// Whether n records of 16 bytes from the offset start bear marks, with keys that ascend.
+fn ascending(m: &[u8], start: usize, n: u16) -> bool
+    requires { ⌜ start + 16 * n ≤ length (now m) ⌝ }
+    ensures { λ r. ⌜ r ≡ ascend 114 99 0 (rowsOf 16 n (drop start (now (m .entry)))) ⌝ }
+{
+    let mut low: u64 = 0;
+    let mut at = start;
+    let mut left = n;
+    while 0 < left {
+        if m[at] != b'r' {
+            return false;
+        }
+        if m[at + 1] != b'c' {
+            return false;
+        }
+        let key = field::get4(m, at + 2) as u64;
+        if key < low {
+            return false;
+        }
+        low = key + 1;
+        at += 16;
+        left -= 1;
+    }
+    true
+}
+
+fn larger(a: u32, b: u32) -> u32
+    ensures { λ r. ⌜ r ≡ pick (leb a b) b a ⌝ }
+{
+    if a <= b {
+        return b;
+    }
+    a
+}
+
+// The largest key of n records of 16 bytes from the offset start, at least `from`.
+pub fn largest_key(m: &[u8], from: u32, start: usize, n: u16) -> u32
+    requires { ⌜ start + 16 * n ≤ length (now m) ⌝ }
+    ensures { λ r. ⌜ r ≡ largest from (rowsOf 16 n (drop start (now (m .entry)))) ⌝ }
+{
+    let mut most = from;
+    let mut at = start;
+    let mut left = n;
+    while 0 < left {
+        most = larger(most, field::get4(m, at + 2));
+        at += 16;
+        left -= 1;
+    }
+    most
+}
+
+// Whether an LO of these pages stands at the front of m, of 1 to 15 records that bear marks and ascend.
+pub fn is_out(m: &[u8], n: u32, org: u16, dest: u16) -> bool
+    requires { ⌜ 1 ≤ n ⌝ }
+    ensures { λ r. ⌜ r ≡ standsOut n org dest (now (m .entry)) ⌝ }
+{
+    let fixed = kind::size_of(kind::LO, 0);
+    if m.len() < fixed {
+        return false;
+    }
+    let k = field::get2(m, 16);
+    if k < 1 {
+        return false;
+    }
+    if 15 < k {
+        return false;
+    }
+    if m.len() < kind::size_of(kind::LO, k) {
+        return false;
+    }
+    if !ascending(m, fixed, k) {
+        return false;
+    }
+    let mut b = [0u8; 28];
+    writing::put_paged(&mut b, 0, kind::LO, k, n, org, dest, k);
+    same_at(m, 0, &b, fixed)
+}

@@ -1,1 +1,3 @@
-// x
+// Units: which one is chosen, and what one record does to its page.
+pub mod choice;
+pub mod order;

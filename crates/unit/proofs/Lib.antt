@@ -4,3 +4,4 @@ pub mod Places
 pub mod Changed
 pub mod Walk
 pub mod Strays
+pub mod Ordered

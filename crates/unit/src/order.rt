@@ -83,7 +83,11 @@ fn stray_leaf(w: &[u8]) -> Stray
         let n = well::count_at(w, q as usize);
         let o = 256 * (q as usize);
         let found = stray_in(&w[o..o + 256], n, q, i);
-        if let Stray::At { want: _, base: _, page: _ } = found {
+        if let Stray::At {
+            want: _,
+            base: _,
+            page: _,
+        } = found {
             return found;
         }
         i += n;

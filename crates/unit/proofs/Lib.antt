@@ -5,3 +5,6 @@ pub mod Changed
 pub mod Walk
 pub mod Strays
 pub mod Ordered
+pub mod Groups
+pub mod Chooses
+pub mod Roots

@@ -30,7 +30,7 @@ use Rattle.unit.specs.declared.order.Stray.the-variants.{Nowhere, At}
 -- ---- how often a page is pointed to
 
 module _ (w : List ℕ) (well : wellFormed (pages w) ≡ true) where
-  once : pointedOnce (rootEntries (pages w) ++ baseEntries (pages w)) 1 (drop 1 (pages w)) ≡ true
+  pub once : pointedOnce (rootEntries (pages w) ++ baseEntries (pages w)) 1 (drop 1 (pages w)) ≡ true
   unfolding wellFormed
   once = all-head _ _ well
 

@@ -1,18 +1,18 @@
 -- A chosen unit as the code holds it, and the walks over the leaves in key order as the code makes them, by root and base entries.
 -- Assumes nothing.
-use Prim.Native.Nat.{ℕ, _+_, _-_, _≤_}
+use Prim.Native.Nat.{ℕ, suc, _+_, _-_, _≤_}
 use mathlib.Core.Path.{_≡_}
 use mathlib.Core.Bool.{Bool, true, false}
 use mathlib.Core.List.{List, [], _∷_}
 use mathlib.Core.Option.{Option, some, none}
 use lib.ListN.{take, drop}
-use lib.Dec.{eqb}
+use lib.Dec.{eqb, leb}
 use Rattle.field.specs.Test.{pick, when}
 use Rattle.field.specs.Bytes.{zeroes}
-use Rattle.page.specs.Page.{toPage}
+use Rattle.page.specs.Page.{toPage, count}
 use Rattle.log.specs.Record.{Begin}
-use Rattle.tree.specs.Tree.{Leaf, leavesOf}
-use Rattle.unit.specs.Choice.{place, putInOrder}
+use Rattle.tree.specs.Tree.{Leaf, under}
+use Rattle.unit.specs.Choice.{larger, place, putInOrder}
 use Rattle.unit.specs.declared.choice.Choice.{Choice}
 use Rattle.unit.specs.declared.order.Stray.{Stray}
 use Rattle.unit.specs.declared.order.Stray.the-variants.{Nowhere, At}
@@ -65,3 +65,22 @@ pointsTo p (e ∷ es) = let rest = pointsTo p es in pick (eqb (toPage e) p) true
 unfoldable pub inOrder : (unit : ℕ) (ps : List (List ℕ)) (ls : List Leaf) → Stray → Option Begin
 inOrder u ps ls Nowhere = none
 inOrder u ps ls (At want b p) = some (putInOrder u want ps ls (leafOf b p))
+
+-- ---- a group of leaves under one base page
+
+-- the pages that these entries point to
+unfoldable pub toPages : (es : List (List ℕ)) → List ℕ
+toPages [] = []
+toPages (e ∷ es) = toPage e ∷ toPages es
+
+-- how many of the leaves below these entries join a group that has `sum` records
+unfoldable pub joins : (ps : List (List ℕ)) (fill sum : ℕ) → (es : List (List ℕ)) → ℕ
+joins ps fill sum [] = 0
+joins ps fill sum (e ∷ es) =
+    let rest = joins ps fill (sum + count (under ps e)) es in
+    pick (leb (sum + count (under ps e)) fill) (suc rest) 0
+
+-- the largest of low and the pages that these entries point to
+unfoldable pub topOf : (low : ℕ) → (es : List (List ℕ)) → ℕ
+topOf low [] = low
+topOf low (e ∷ es) = topOf (larger low (toPage e)) es

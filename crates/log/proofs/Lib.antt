@@ -9,6 +9,11 @@ pub mod Fields
 pub mod Typed
 pub mod Begun
 pub mod Rowed
+pub mod Placed
+pub mod Turned
+pub mod Ways
+pub mod Held
+pub mod Pass
 pub mod Stand
 pub mod State
 pub mod Begin

@@ -1,23 +1,26 @@
 -- Writes one after the other are one write of all their bytes: how the code writes a record. Assumes nothing.
 use Prim.Native.Nat.{ℕ, zero, suc, _+_, _-_, _*_, _≤_, _<_}
 use native.Mathlib.Nat.{add-zero, add-assoc}
+use native.Mathlib.Numerals.{add-one}
 use native.Mathlib.Omega.{arith}
 use mathlib.Core.Path.{_≡_, refl, sym, ap, _∙_}
 use mathlib.Core.Bool.{Bool, true, false}
-use mathlib.Core.List.{List, [], _∷_, _++_, append-nil}
+use mathlib.Core.List.{List, [], _∷_, _++_, append-nil, append-assoc}
 use mathlib.Core.Option.{Option, some, none}
-use lib.ListN.{length, take, drop, set, take-append-drop, length-append}
+use lib.ListN.{length, take, drop, getD, take-append-drop, length-append}
 use lib.Dec.{eqb}
 use lib.Seq.{take-all}
 use borrow.Author.Tests.{eq-eqb, ne-eqb}
 use Rattle.field.specs.Test.{pick}
 use Rattle.field.specs.Bytes.{put, bytes2, bytes4, zeroes}
 use Rattle.field.proofs.Part.{put-next, length-put}
+use Rattle.field.proofs.Number.{length-bytes2}
 use Rattle.page.specs.Page.{joined, rowsOf}
-use Rattle.page.proofs.Rows.{joined-rowsOf, length-rowsOf}
-use Rattle.log.specs.Record.{Kind, check, begin, out, into, modify, end, lengthOf, Check, Begin, Rec, LB, LO, LI, LM, LE, kindOf, carried, size, header, lkBytes, encodeCheck, newKey, body, previous, encode}
+use Rattle.page.proofs.Rows.{Each, joined-rowsOf, length-rowsOf}
+use Rattle.log.specs.Record.{Kind, check, begin, out, into, modify, end, lengthOf, Check, Begin, Rec, LB, LO, LI, LM, LE, kindOf, carried, size, header, fields, lkBytes, encodeCheck, newKey, body, previous, encode}
 use Rattle.log.specs.Table.{kindAt, kinds}
-use Rattle.log.specs.Write.{unitHead, paged, inBytes, lkOf, checkOf}
+use Rattle.log.specs.Write.{unitHead, paged, inBytes, lkOf, checkOf, beginOf}
+use Rattle.log.proofs.Record.{length-fields, length-encode}
 
 -- the runs bs written one behind the other, the first at the offset at + o
 abbrev pub puts : (at o : ℕ) → List (List ℕ) → List ℕ → List ℕ
@@ -116,3 +119,50 @@ encode-end n unit = refl
 pub encode-in : (n org dest back : ℕ) (rs : List (List ℕ)) → encode n (LI org dest back rs) ≡ inBytes n org dest back (length rs)
 unfolding encode body previous kindOf size carried inBytes paged header bytes2 bytes4
 encode-in n org dest back rs = refl
+
+-- ---- an LB
+
+-- one field more
+fields-more : (i : ℕ) (ps : List ℕ) → fields (suc i) ps ≡ fields i ps ++ bytes2 (getD ps i 0)
+unfolding fields
+fields-more zero [] = append-nil (bytes2 0)
+fields-more zero (p ∷ ps) = append-nil (bytes2 p)
+fields-more (suc i) [] = ap (λ (x : List ℕ). bytes2 0 ++ x) (fields-more i []) ∙ sym (append-assoc (bytes2 0) (fields i []) (bytes2 0))
+fields-more (suc i) (p ∷ ps) = ap (λ (x : List ℕ). bytes2 p ++ x) (fields-more i ps) ∙ sym (append-assoc (bytes2 p) (fields i ps) (bytes2 (getD ps i 0)))
+
+-- the loop that writes fields: its start, a turn, its end
+module _ (d : List ℕ) (at : ℕ) (ps : List ℕ) where
+  pub fields-none! : d ≡ put at (fields 0 ps) d
+  unfolding fields
+  fields-none! = sym (put-nil at d)
+
+  pub fields-turn! : (i n v : ℕ) (s r : List ℕ) → s ≡ put at (fields i ps) d → v ≡ getD ps i 0 → r ≡ put (at + 2 * i) (bytes2 v) s → i < n → at + 2 * n ≤ length d
+      → r ≡ put at (fields (i + 1) ps) d
+  fields-turn! i n v s r e q p h k =
+      let l : length (fields i ps) ≡ 2 * i = length-fields i ps in
+      let m : length (bytes2 v) ≡ 2 = length-bytes2 v in
+      let z : fields (i + 1) ps ≡ fields i ps ++ bytes2 v = rw (add-one i, q) (fields-more i ps) in
+      p ∙ rw (e, z, ← l) (put-next at (fields i ps) (bytes2 v) d (omega arith))
+
+  pub fields-all! : (i n : ℕ) (s : List ℕ) → s ≡ put at (fields i ps) d → i ≤ n → n ≤ i → s ≡ put at (fields n ps) d
+  fields-all! i n s e h k = let z : i ≡ n = omega arith in e ∙ rw z
+
+pub begin-puts : (l : List ℕ) (at n unit kind fill : ℕ) (bs ls : List ℕ) (dest : ℕ) → at + 44 ≤ length l
+    → put (at + 42) (bytes2 0) (put (at + 40) (bytes2 dest) (put (at + 24) (fields 8 ls) (put (at + 20) (fields 2 bs)
+    (put (at + 16) (kind ∷ fill ∷ length bs ∷ length ls ∷ []) (put at (unitHead (kindAt 1) n 0 unit) l)))))
+    ≡ put at (encode n (LB (beginOf unit kind fill bs ls dest))) l
+unfolding encode body previous kindOf size carried unitHead header bytes2 bytes4 joined kindAt kinds beginOf lengthOf
+begin-puts l at n unit kind fill bs ls dest h =
+    let g : Begin = beginOf unit kind fill bs ls dest in
+    let e : length (encode n (LB g)) ≡ 44 = length-encode n (LB g) Each.nil in
+    let runs : List (List ℕ) = unitHead begin n 0 unit ∷ (kind ∷ fill ∷ length bs ∷ length ls ∷ []) ∷ fields 2 bs ∷ fields 8 ls ∷ bytes2 dest ∷ bytes2 0 ∷ [] in
+    let q : puts at 0 runs l ≡ put at (encode n (LB g)) l = puts-all at runs l (encode n (LB g)) refl (omega arith) in
+    rw (add-zero at, length-fields 2 bs, length-fields 8 ls) at q
+
+-- the same, write by write
+pub begin-written : (l : List ℕ) (at n unit kind fill : ℕ) (bs ls : List ℕ) (dest : ℕ) → at + 44 ≤ length l → (r1 r2 r3 r4 r5 r6 : List ℕ)
+    → r1 ≡ put at (unitHead (kindAt 1) n 0 unit) l → r2 ≡ put (at + 16) (kind ∷ fill ∷ length bs ∷ length ls ∷ []) r1 → r3 ≡ put (at + 20) (fields 2 bs) r2
+    → r4 ≡ put (at + 24) (fields 8 ls) r3 → r5 ≡ put (at + 40) (bytes2 dest) r4 → r6 ≡ put (at + 42) (bytes2 0) r5
+    → r6 ≡ put at (encode n (LB (beginOf unit kind fill bs ls dest))) l
+begin-written l at n unit kind fill bs ls dest h r1 r2 r3 r4 r5 r6 e1 e2 e3 e4 e5 e6 =
+    rw (e6, e5, e4, e3, e2, e1) (begin-puts l at n unit kind fill bs ls dest h)

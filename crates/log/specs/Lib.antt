@@ -3,5 +3,7 @@ pub mod Record
 pub mod Table
 pub mod Write
 pub mod Plan
+pub mod Steps
 pub mod Log
 pub mod Stand
+pub mod Scan

@@ -5,7 +5,7 @@ use mathlib.Core.List.{List, [], _∷_, _++_}
 use mathlib.Core.Option.{Option, some, none}
 use Rattle.field.specs.Test.{pick}
 use Rattle.field.specs.Bytes.{bytes2, bytes4}
-use Rattle.log.specs.Record.{Kind, into, lengthOf, Check, header}
+use Rattle.log.specs.Record.{Kind, into, lengthOf, Check, Begin, header}
 
 -- header and unit number: all of an LE, and how an LB begins
 unfoldable pub unitHead : Kind → (n before unit : ℕ) → List ℕ
@@ -25,3 +25,7 @@ lkOf there key = pick there (some key) none
 
 unfoldable pub checkOf : (n unit : ℕ) → (there : Bool) → (key : ℕ) → Check
 checkOf n unit there key = record { number = n; unit = unit; lk = lkOf there key }
+
+-- a begin record by its numbers and lists
+unfoldable pub beginOf : (unit type fill : ℕ) → (bases leaves : List ℕ) → (dest : ℕ) → Begin
+beginOf unit type fill bases leaves dest = record { unit = unit; type = type; fill = fill; bases = bases; leaves = leaves; dest = dest }

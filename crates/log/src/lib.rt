@@ -2,4 +2,6 @@
 pub mod kind;
 pub mod opening;
 pub mod reading;
+pub mod scan;
+pub mod steps;
 pub mod writing;

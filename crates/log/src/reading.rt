@@ -7,7 +7,8 @@ ghost use Rattle.field.specs.Test.{pick};
 ghost use Rattle.field.specs.Bytes.{starts};
 ghost use Rattle.page.specs.Page.{rowsOf, ascend};
 ghost use Rattle.log.specs.Log.{largest};
-ghost use Rattle.log.specs.Record.{LE};
+ghost use Rattle.log.specs.Record.{LE, encodeCheck};
+ghost use Rattle.log.specs.Write.{checkOf};
 ghost use Rattle.log.specs.Stand.{stands, standsIn, standsModify, standsOut, standsBegin};
 use crate::kind;
 use crate::opening;
@@ -29,7 +30,7 @@ fn same_at(l: &[u8], at: usize, b: &[u8], n: usize) -> bool
 }
 
 // Whether the LE of this unit stands there, with the log number n.
-fn is_end(l: &[u8], at: usize, n: u32, unit: u32) -> bool
+pub fn is_end(l: &[u8], at: usize, n: u32, unit: u32) -> bool
     requires { ⌜ (at ≤ length (now l)) × (1 ≤ n) ⌝ }
     ensures { λ r. ⌜ r ≡ stands n (LE unit) (drop at (now (l .entry))) ⌝ }
 {
@@ -43,7 +44,7 @@ fn is_end(l: &[u8], at: usize, n: u32, unit: u32) -> bool
 }
 
 // Whether an LM of these pages stands there, whatever its key.
-fn is_modify(l: &[u8], at: usize, n: u32, base: u16, old: u16, new: u16) -> bool
+pub fn is_modify(l: &[u8], at: usize, n: u32, base: u16, old: u16, new: u16) -> bool
     requires { ⌜ (at ≤ length (now l)) × (1 ≤ n) ⌝ }
     ensures { λ r. ⌜ r ≡ standsModify n base old new (drop at (now (l .entry))) ⌝ }
 {
@@ -58,8 +59,8 @@ fn is_modify(l: &[u8], at: usize, n: u32, base: u16, old: u16, new: u16) -> bool
 }
 
 // Whether an LI of these pages stands there, of as many records as its LO, which stands `back` records before.
-fn is_in(l: &[u8], at: usize, n: u32, org: u16, dest: u16, back: u32, rows: u16) -> bool
-    requires { ⌜ (at ≤ length (now l)) × (1 ≤ n) × (back ≤ n) ⌝ }
+pub fn is_in(l: &[u8], at: usize, n: u32, org: u16, dest: u16, back: u32, rows: u16) -> bool
+    requires { ⌜ (at ≤ length (now l)) × (1 ≤ n) ⌝ }
     ensures { λ r. ⌜ r ≡ standsIn n org dest back rows (drop at (now (l .entry))) ⌝ }
 {
     let long = kind::size_of(kind::LI, 0);
@@ -165,4 +166,14 @@ pub fn is_out(m: &[u8], n: u32, org: u16, dest: u16) -> bool
     let mut b = [0u8; 28];
     writing::put_paged(&mut b, 0, kind::LO, k, n, org, dest, k);
     same_at(m, 0, &b, fixed)
+}
+
+// Whether the check record of these numbers stands at the front of l.
+pub fn is_check(l: &[u8], n: u32, unit: u32, known: bool, key: u32) -> bool
+    requires { ⌜ 24 ≤ length (now l) ⌝ }
+    ensures { λ r. ⌜ r ≡ starts (encodeCheck (checkOf n unit known key)) (now (l .entry)) ⌝ }
+{
+    let mut b = [0u8; 28];
+    writing::put_check(&mut b, n, unit, known, key);
+    same_at(l, 0, &b, kind::size_of(kind::LC, 0))
 }

@@ -1,0 +1,376 @@
+-- What holds at each state of the pass: it is sound, and its open unit began where the numbers say. Assumes nothing.
+use Prim.Native.Nat.{ℕ, zero, suc, _+_, _-_, _*_, _≤_, _<_}
+use native.Mathlib.Nat.{not-suc-le-zero}
+use native.Mathlib.Omega.{arith}
+use mathlib.Core.Path.{_≡_, refl, sym, ap, _∙_, subst}
+use mathlib.Core.Logic.{_⊎_, inl, inr, ⊎-elim}
+use mathlib.Core.Bool.{Bool, true, false, false≢true}
+use mathlib.Core.List.{List, [], _∷_, _++_}
+use mathlib.Core.Option.{Option, some, none, Option·some-injective, Option·none-ne-some}
+use lib.ListN.{length, drop, getD, length-drop}
+use lib.Dec.{eqb, leb}
+use borrow.Author.Tests.{eq-eqb, ne-eqb}
+use Rattle.field.specs.Test.{both, all, pick, given, when, bind, there}
+use Rattle.field.specs.Bytes.{Bytes, most4}
+use Rattle.field.proofs.Test.{pick-true, pick-false, bind-some, when-some}
+use Rattle.field.proofs.Byte.{bytes-drop}
+use Rattle.log.specs.Record.{Check, Begin, Rec, LB, LO, LI, LM, LE, begin, lengthOf, kindOf, carried, size}
+use Rattle.log.specs.Plan.{Step, takeOut, bringIn, point, close, gather, removals, others, replacing, compactPlan, movePlan, swapPlan, plan}
+use Rattle.log.specs.Log.{Open, State, first, going, openedBy, unitBy, after, beginOk, readBegin, taken, expected, readRec}
+use Rattle.log.specs.Scan.{bytesOf, shown, lost, begun, stepped, turned, Ready}
+use Rattle.log.specs.Stand.{standsBegin}
+use Rattle.log.specs.declared.scan.Walk.{Walk}
+use Rattle.log.proofs.Record.{size-least}
+use Rattle.log.proofs.Plan.{Ending, last, more}
+use Rattle.log.proofs.Valid.{Small, Does, does-out, does-in, does-point, does-close, Follows, begins, goes, Fits}
+use Rattle.log.proofs.Sound.{Awaits, awaits-todo, Sound, Waits, waits-open, sound-first, sound-after}
+use Rattle.log.proofs.Read.{ReadOff, readRec-facts}
+use Rattle.log.proofs.Turned.{Counted, open-reads, shut-reads}
+
+-- ---- each LI refers to the record before; or, fourth in a swap, to the unit's first
+
+OneBack : Step → Type 0
+OneBack x = (org dest back : ℕ) → x ≡ bringIn org dest back → back ≡ 1
+
+data Ones : List Step → Type 0 where
+  nil : Ones []
+  cons : {x : Step} {xs : List Step} → OneBack x → Ones xs → Ones (x ∷ xs)
+
+one-out : (a d : ℕ) → OneBack (takeOut a d)
+unfolding OneBack
+one-out a d org dest back e = let z : _≡_ {A = ℕ} 0 1 = cc in absurd (omega arith)
+
+one-in : (a d : ℕ) → OneBack (bringIn a d 1)
+unfolding OneBack
+one-in a d org dest back e = cc
+
+one-point : (p a d : ℕ) (t : Bool) → OneBack (point p a d t)
+unfolding OneBack
+one-point p a d t org dest back e = let z : _≡_ {A = ℕ} 0 1 = cc in absurd (omega arith)
+
+one-close : (u : ℕ) → OneBack (close u)
+unfolding OneBack
+one-close u org dest back e = let z : _≡_ {A = ℕ} 0 1 = cc in absurd (omega arith)
+
+ones-append : {a b : List Step} → Ones a → Ones b → Ones (a ++ b)
+ones-append nil q = q
+ones-append (cons h p) q = cons h (ones-append p q)
+
+ones-pick : (t : Bool) {a b : List Step} → Ones a → Ones b → Ones (pick t a b)
+unfolding pick
+ones-pick true p q = p
+ones-pick false p q = q
+
+ones-gather : (dest : ℕ) (ps : List ℕ) → Ones (gather dest ps)
+unfolding gather
+ones-gather dest [] = nil
+ones-gather dest (p ∷ ps) = ones-pick (eqb p dest) (ones-gather dest ps) (cons (one-out p dest) (cons (one-in p dest) (ones-gather dest ps)))
+
+ones-removals : (base : ℕ) (ps : List ℕ) → Ones (removals base ps)
+unfolding removals
+ones-removals base [] = nil
+ones-removals base (p ∷ ps) = cons (one-point base p 0 false) (ones-removals base ps)
+
+ones-at : {xs : List Step} (u i : ℕ) → Ones xs → OneBack (getD xs i (close u))
+ones-at u zero nil = one-close u
+ones-at u (suc i) nil = one-close u
+ones-at u zero (cons h p) = h
+ones-at u (suc i) (cons h p) = ones-at u i p
+
+Back : ℕ → Step → Type 0
+Back i x = (org dest back : ℕ) → x ≡ bringIn org dest back → (back ≡ 1) ⊎ ((back ≡ 3) × (i ≡ 3))
+
+back-one : (i : ℕ) (x : Step) → OneBack x → Back i x
+unfolding Back OneBack
+back-one i x f org dest back e = inl (f org dest back e)
+
+back-third : (a b : ℕ) → Back 3 (bringIn a b 3)
+unfolding Back
+back-third a b org dest back e = inr (cc, refl)
+
+swap-back : (p q a b v u i : ℕ) → Back i (getD (swapPlan p q a b ++ (close v ∷ [])) i (close u))
+unfolding swapPlan
+swap-back p q a b v u zero = back-one 0 _ (one-out a b)
+swap-back p q a b v u (suc zero) = back-one 1 _ (one-out b a)
+swap-back p q a b v u (suc (suc zero)) = back-one 2 _ (one-in b a)
+swap-back p q a b v u (suc (suc (suc zero))) = back-third a b
+swap-back p q a b v u (suc (suc (suc (suc zero)))) = back-one 4 _ (one-point q b a false)
+swap-back p q a b v u (suc (suc (suc (suc (suc zero))))) = back-one 5 _ (one-point p a b (eqb p q))
+swap-back p q a b v u (suc (suc (suc (suc (suc (suc zero)))))) = back-one 6 _ (one-close v)
+swap-back p q a b v u (suc (suc (suc (suc (suc (suc (suc i))))))) = back-one _ _ (one-close u)
+
+pick-back : (t : Bool) (u i : ℕ) (a b xs : List Step) → Back i (getD (a ++ xs) i (close u)) → Back i (getD (b ++ xs) i (close u)) → Back i (getD (pick t a b ++ xs) i (close u))
+unfolding pick
+pick-back true u i a b xs p q = p
+pick-back false u i a b xs p q = q
+
+compact-ones : (p d : ℕ) (ls : List ℕ) → Ones (compactPlan p d ls)
+unfolding compactPlan replacing
+compact-ones p d ls =
+    ones-append (ones-gather d ls) (ones-append (ones-pick (eqb (getD ls 0 0) d) nil (cons (one-point p (getD ls 0 0) d false) nil)) (ones-removals p (others ls)))
+
+move-ones : (p a d : ℕ) → Ones (movePlan p a d)
+unfolding movePlan
+move-ones p a d = cons (one-out a d) (cons (one-in a d) (cons (one-point p a d false) nil))
+
+plan-back : (g : Begin) (u i : ℕ) → Back i (getD (plan g) i (close u))
+unfolding plan
+plan-back g u i =
+    let p : ℕ = getD (g .bases) 0 0 in
+    let q : ℕ = getD (g .bases) 1 p in
+    let a : ℕ = getD (g .leaves) 0 0 in
+    let b : ℕ = getD (g .leaves) 1 0 in
+    let e : Ones (close (g .unit) ∷ []) = cons (one-close (g .unit)) nil in
+    pick-back (eqb (g .type) 1) u i (compactPlan p (g .dest) (g .leaves)) (pick (eqb (g .type) 2) (swapPlan p q a b) (movePlan p a (g .dest))) (close (g .unit) ∷ [])
+    (back-one i _ (ones-at u i (ones-append (compact-ones p (g .dest) (g .leaves)) e)))
+    (pick-back (eqb (g .type) 2) u i (swapPlan p q a b) (movePlan p a (g .dest)) (close (g .unit) ∷ []) (swap-back p q a b (g .unit) u i)
+    (back-one i _ (ones-at u i (ones-append (move-ones p a (g .dest)) e))))
+
+-- so the number of records that an LI names is known
+counted : (s : State) (o : Open) (op : s .opened ≡ some o) (m : List ℕ) (x : Step) → Back (length (o .did)) x → Counted s o op m x
+unfolding Counted Back shown given taken
+counted s o op m x f org dest back e =
+    ⊎-elim
+    (λ (q : back ≡ 1). rw (op, q) (pick-true (eqb 1 1) _ _ (eq-eqb 1 1 refl)))
+    (λ (q : (back ≡ 3) × (length (o .did) ≡ 3)). rw (op, q .0, q .1) (pick-false (eqb 3 1) _ _ (ne-eqb 3 1 (λ z. omega (arith, z)))))
+    (f org dest back e)
+
+-- ---- the open unit's next step
+
+record Cons (xs : List Step) : Type 0 where
+  head : Step
+  tail : List Step
+  is : xs ≡ head ∷ tail
+
+ending-cons : {u : ℕ} {xs : List Step} → Ending u xs → Cons xs
+ending-cons {u} last = record { head = close u; tail = []; is = refl }
+ending-cons (more {x = x} {xs = xs} w e) = record { head = x; tail = xs; is = refl }
+
+head-drop : (n : ℕ) (p : List Step) (d y : Step) (ys : List Step) → drop n p ≡ y ∷ ys → getD p n d ≡ y
+head-drop zero [] d y ys e = let z : _≡_ {A = ℕ} 0 1 = cc in absurd (omega arith)
+head-drop zero (x ∷ p) d y ys e = cc
+head-drop (suc n) [] d y ys e = let z : _≡_ {A = ℕ} 0 1 = cc in absurd (omega arith)
+head-drop (suc n) (x ∷ p) d y ys e = head-drop n p d y ys e
+
+-- ---- what holds
+
+-- the open unit began where the numbers say
+pub record Anchored (l : List ℕ) (s : State) (o : Open) : Type 0 where
+  pub start : o .start ≡ readBegin (s .unit) (drop ((shown s) .begin) l)
+  pub room : (shown s) .begin + 44 ≤ length l
+
+pub record Holds (l : List ℕ) (s : State) : Type 0 where
+  pub sound : Sound s
+  pub inside : s .at ≤ length l
+  pub steps : (shown s) .done ≤ s .at
+  pub anchored : (o : Open) → s .opened ≡ some o → Anchored l s o
+
+awaits : (s : State) (o : Open) → Sound s → s .opened ≡ some o → Awaits (s .unit) o
+awaits s o h e = waits-open (subst (Waits (s .unit)) e (h .waits))
+
+-- the numbers are ready for a turn
+there-none : (x : Option Open) → x ≡ none → there x ≡ true → ⊥
+unfolding there
+there-none x e t = let z : false ≡ true = rw e at t in absurd (false≢true z)
+
+unfold-none : there {A = Open} none ≡ false
+unfolding there
+unfold-none = refl
+
+unfold-some : (o : Open) → there (some o) ≡ true
+unfolding there
+unfold-some o = refl
+
+done-some : (s : State) (o : Open) → s .opened ≡ some o → (shown s) .done ≡ length (o .did)
+unfolding shown given
+done-some s o e = rw e
+
+type-of : (u : ℕ) (b : List ℕ) → readBegin u b .type ≡ getD b 16 0
+unfolding readBegin
+type-of u b = refl
+
+at-is : (l : List ℕ) (s : State) → Holds l s → (shown s) .at ≤ length l
+unfolding shown
+at-is l s h = h .inside
+
+steps-is : (l : List ℕ) (s : State) → Holds l s → (shown s) .done ≤ (shown s) .at
+unfolding shown
+steps-is l s h = h .steps
+
+shown-opened : (s : State) → (shown s) .opened ≡ there (s .opened)
+unfolding shown
+shown-opened s = refl
+
+ready-by : (l : List ℕ) (s : State) → Holds l s → (x : Option Open) → s .opened ≡ x → Ready l (shown s)
+ready-by l s h none e =
+    record {
+      inside = at-is l s h;
+      steps = steps-is l s h;
+      room = λ t. absurd (there-none (s .opened) e (sym (shown-opened s) ∙ t));
+      start = λ t. absurd (there-none (s .opened) e (sym (shown-opened s) ∙ t));
+    }
+ready-by l s h (some o) e =
+    let a : Anchored l s o = h .anchored o e in
+    let w : Awaits (s .unit) o = awaits s o (h .sound) e in
+    let u : (shown s) .unit ≡ s .unit = unfold shown in refl in
+    record {
+      inside = at-is l s h;
+      steps = steps-is l s h;
+      room = λ t. a .room;
+      start = λ t. rw (u, ← a .start) (w .ok);
+    }
+
+pub ready : (l : List ℕ) (s : State) → Holds l s → Ready l (shown s)
+ready l s h = ready-by l s h (s .opened) refl
+
+-- ---- a turn reads the next record
+
+opened-none : (l : List ℕ) (s : State) → s .opened ≡ none
+    → turned l (shown s) ≡ pick (standsBegin ((shown s) .number + 1) ((shown s) .unit + 1) (drop (s .at) l)) (begun (shown s)) lost
+unfolding turned
+opened-none l s e =
+    let a : (shown s) .at ≡ s .at = unfold shown in refl in
+    let f : (shown s) .opened ≡ false = shown-opened s ∙ ap there e ∙ unfold-none in
+    pick-false _ _ _ f ∙ ap (λ (x : ℕ). pick (standsBegin ((shown s) .number + 1) ((shown s) .unit + 1) (drop x l)) (begun (shown s)) lost) a
+
+opened-some : (l : List ℕ) (s : State) (o : Open) → s .opened ≡ some o → o .start ≡ readBegin (s .unit) (drop ((shown s) .begin) l)
+    → turned l (shown s) ≡ stepped (shown s) (drop (s .at) l) (eqb (o .start .type) 1) (getD (plan (o .start)) (length (o .did)) (close (s .unit)))
+unfolding turned
+opened-some l s o e q =
+    let a : (shown s) .at ≡ s .at = unfold shown in refl in
+    let u : (shown s) .unit ≡ s .unit = unfold shown in refl in
+    let d : (shown s) .done ≡ length (o .did) = done-some s o e in
+    let f : (shown s) .opened ≡ true = shown-opened s ∙ ap there e ∙ unfold-some o in
+    let b : List ℕ = drop ((shown s) .begin) l in
+    let t : o .start .type ≡ getD b 16 0 = ap (λ (g : Begin). g .type) q ∙ type-of (s .unit) b in
+    let p : plan (readBegin (s .unit) b) ≡ plan (o .start) = ap plan (sym q) in
+    pick-true _ _ _ f
+    ∙ ap (λ (x : ℕ). stepped (shown s) (drop x l) (eqb (getD b 16 0) 1) (getD (plan (readBegin ((shown s) .unit) b)) ((shown s) .done) (close ((shown s) .unit)))) a
+    ∙ ap (λ (x : ℕ). stepped (shown s) (drop (s .at) l) (eqb x 1) (getD (plan (readBegin ((shown s) .unit) b)) ((shown s) .done) (close ((shown s) .unit)))) (sym t)
+    ∙ ap (λ (x : ℕ). stepped (shown s) (drop (s .at) l) (eqb (o .start .type) 1) (getD (plan (readBegin x b)) ((shown s) .done) (close x))) u
+    ∙ ap (λ (x : ℕ). stepped (shown s) (drop (s .at) l) (eqb (o .start .type) 1) (getD (plan (readBegin (s .unit) b)) x (close (s .unit)))) d
+    ∙ ap (λ (x : List Step). stepped (shown s) (drop (s .at) l) (eqb (o .start .type) 1) (getD x (length (o .did)) (close (s .unit)))) p
+
+turn-by : (l : List ℕ) (s : State) → Holds l s → (x : Option Open) → s .opened ≡ x → turned l (shown s) ≡ given (readRec s (drop (s .at) l)) lost (λ r. shown (after s r))
+turn-by l s h none e = opened-none l s e ∙ shut-reads s (drop (s .at) l) e
+turn-by l s h (some o) e =
+    let a : Anchored l s o = h .anchored o e in
+    let w : Awaits (s .unit) o = awaits s o (h .sound) e in
+    let c : Cons (o .todo) = ending-cons (w .todo) in
+    let t : drop (length (o .did)) (plan (o .start)) ≡ c .head ∷ c .tail = sym (awaits-todo w) ∙ c .is in
+    let x : getD (plan (o .start)) (length (o .did)) (close (s .unit)) ≡ c .head = head-drop (length (o .did)) (plan (o .start)) (close (s .unit)) (c .head) (c .tail) t in
+    let f : Back (length (o .did)) (c .head) = subst (Back (length (o .did))) x (plan-back (o .start) (s .unit) (length (o .did))) in
+    opened-some l s o e (a .start) ∙ ap (stepped (shown s) (drop (s .at) l) (eqb (o .start .type) 1)) x
+    ∙ open-reads s o e (drop (s .at) l) (c .head) (c .tail) (c .is) (counted s o e (drop (s .at) l) (c .head) f)
+
+pub turn-reads : (l : List ℕ) (s : State) → Holds l s → turned l (shown s) ≡ given (readRec s (drop (s .at) l)) lost (λ r. shown (after s r))
+turn-reads l s h = turn-by l s h (s .opened) refl
+
+-- ---- what holds after a record
+
+begin-of : (s : State) (o : Open) → s .opened ≡ some o → (shown s) .begin ≡ s .at - (44 + bytesOf (o .did))
+unfolding shown given lengthOf
+begin-of s o e = rw e
+
+begin-less : (a : ℕ) (r : Rec) (o : Open) (b : ℕ) → b ≡ a + size r → b - (44 + bytesOf (going r o .did)) ≡ a - (44 + bytesOf (o .did))
+unfolding going bytesOf
+begin-less a r o b e = omega arith
+
+begin-new : (s : State) (g : Begin) → (after s (LB g)) .at - (44 + bytesOf []) ≡ s .at
+unfolding after bytesOf size carried kindOf lengthOf
+begin-new s g = omega arith
+
+begin-size : (a : ℕ) (r : Rec) (g : Begin) (n : ℕ) → r ≡ LB g → a + size r ≤ n → a + 44 ≤ n
+unfolding size carried kindOf lengthOf
+begin-size a r g n e h = rw e at h
+
+-- the open unit after one of its records but LE
+anchored-going : (l : List ℕ) (s : State) (o : Open) (r : Rec) → s .opened ≡ some o → Anchored l s o → (after s r) .opened ≡ some (going r o) → (after s r) .unit ≡ s .unit
+    → (after s r) .at ≡ s .at + size r → (p : Open) → (after s r) .opened ≡ some p → Anchored l (after s r) p
+anchored-going l s o r e a n u k p q =
+    let g : going r o ≡ p = Option·some-injective (going r o) p (sym n ∙ q) in
+    let i : (shown (after s r)) .begin ≡ (shown s) .begin =
+    begin-of (after s r) (going r o) n ∙ begin-less (s .at) r o ((after s r) .at) k ∙ sym (begin-of s o e) in
+    let j : going r o .start ≡ o .start = unfold going in refl in
+    subst (Anchored l (after s r)) g (record {
+      start = j ∙ a .start
+          ∙ ap (λ (x : ℕ). readBegin (s .unit) (drop x l)) (sym i)
+          ∙ ap (λ (x : ℕ). readBegin x (drop ((shown (after s r)) .begin) l)) (sym u);
+      room = subst (λ (x : ℕ). x + 44 ≤ length l) (sym i) (a .room);
+    })
+
+-- the LB that is read
+begin-read : (s : State) (m : List ℕ) (r : Rec) → s .opened ≡ none → readRec s m ≡ some r → r ≡ LB (readBegin (s .unit + 1) m)
+unfolding readRec expected
+begin-read s m r e q =
+    let b = bind-some (expected (s .unit) (s .opened) m) _ r q in
+    let w = when-some (beginOk (readBegin (s .unit + 1) m)) (LB (readBegin (s .unit + 1) m)) (b .from) (sym (ap (λ (y : Option Open). expected (s .unit) y m) e) ∙ b .was) in
+    sym (w .1 ∙ when-some _ (b .from) r (b .gives) .1)
+
+anchored-begun : (l : List ℕ) (s : State) → s .at + 44 ≤ length l → (p : Open) → (after s (LB (readBegin (s .unit + 1) (drop (s .at) l)))) .opened ≡ some p
+    → Anchored l (after s (LB (readBegin (s .unit + 1) (drop (s .at) l)))) p
+anchored-begun l s h p q =
+    let g : Begin = readBegin (s .unit + 1) (drop (s .at) l) in
+    let n : (after s (LB g)) .opened ≡ some (record { start = g; did = []; todo = plan g }) = unfold after openedBy in refl in
+    let e : record { start = g; did = []; todo = plan g } ≡ p = Option·some-injective _ p (sym n ∙ q) in
+    let i : (shown (after s (LB g))) .begin ≡ s .at = begin-of (after s (LB g)) _ n ∙ begin-new s g in
+    let u : (after s (LB g)) .unit ≡ s .unit + 1 = unfold after unitBy readBegin in refl in
+    subst (Anchored l (after s (LB g))) e (record {
+      start = ap (λ (x : ℕ). readBegin (s .unit + 1) (drop x l)) (sym i)
+          ∙ ap (λ (x : ℕ). readBegin x (drop ((shown (after s (LB g))) .begin) l)) (sym u);
+      room = subst (λ (x : ℕ). x + 44 ≤ length l) (sym i) h;
+    })
+
+by-step : (l : List ℕ) (s : State) (r : Rec) (o : Open) → Anchored l s o → s .opened ≡ some o → {x : Step} → Does (o .did) x r
+    → (p : Open) → (after s r) .opened ≡ some p → Anchored l (after s r) p
+unfolding after openedBy unitBy bind
+by-step l s r o a e (does-out {org = org} {dest = dest} {rs = rs} m) p n = anchored-going l s o (LO org dest rs) e a (rw e) refl refl p n
+by-step l s r o a e (does-in {org = org} {dest = dest} {back = back} {rs = rs} m) p n = anchored-going l s o (LI org dest back rs) e a (rw e) refl refl p n
+by-step l s r o a e (does-point {base = base} {old = old} {new = new} {key = key} m) p n = anchored-going l s o (LM base old new key) e a (rw e) refl refl p n
+by-step l s r o a e does-close p n = absurd (Option·none-ne-some p n)
+
+-- by the record that comes next
+anchored-after : (l : List ℕ) (s : State) (r : Rec) → Holds l s → readRec s (drop (s .at) l) ≡ some r → s .at + size r ≤ length l → (x : Option Open) → s .opened ≡ x
+    → Follows (s .unit) x r → (p : Open) → (after s r) .opened ≡ some p → Anchored l (after s r) p
+anchored-after l s r h q k none e f p n =
+    let c : r ≡ LB (readBegin (s .unit + 1) (drop (s .at) l)) = begin-read s (drop (s .at) l) r e q in
+    let z : s .at + 44 ≤ length l = begin-size (s .at) r _ (length l) c k in
+    subst (λ (y : Rec). (after s y) .opened ≡ some p → Anchored l (after s y) p) (sym c) (anchored-begun l s z p) n
+anchored-after l s r h q k (some o) e (goes t d) p n = by-step l s r o (h .anchored o e) e d p n
+
+-- the steps done are no more than the bytes
+done-by : (r : Rec) (a : ℕ) (x : Option Open) → given x 0 (λ (o : Open). length (o .did)) ≤ a → given (openedBy r x) 0 (λ (o : Open). length (o .did)) ≤ a + size r
+unfolding openedBy given bind going
+done-by (LB g) a x h = omega arith
+done-by (LO org dest rs) a none h = omega arith
+done-by (LO org dest rs) a (some o) h = omega (arith, size-least (LO org dest rs))
+done-by (LI org dest back rs) a none h = omega arith
+done-by (LI org dest back rs) a (some o) h = omega (arith, size-least (LI org dest back rs))
+done-by (LM base old new key) a none h = omega arith
+done-by (LM base old new key) a (some o) h = omega (arith, size-least (LM base old new key))
+done-by (LE u) a x h = omega arith
+
+done-after : (s : State) (r : Rec) → (shown s) .done ≤ s .at → (shown (after s r)) .done ≤ s .at + size r
+unfolding shown after
+done-after s r h = done-by r (s .at) (s .opened) h
+
+-- the next state
+pub holds-after : (l : List ℕ) (s : State) (r : Rec) → Bytes l → Holds l s → readRec s (drop (s .at) l) ≡ some r → Holds l (after s r)
+holds-after l s r b h q =
+    let f : ReadOff s (drop (s .at) l) r = readRec-facts s (drop (s .at) l) r q in
+    let x : Fits s r = f .fits (bytes-drop (s .at) l b) in
+    let d : length (drop (s .at) l) ≡ length l - s .at = length-drop (s .at) l in
+    let k : s .at + size r ≤ length l = omega (arith, f .short, size-least r, h .inside) in
+    let a : (after s r) .at ≡ s .at + size r = unfold after in refl in
+    record {
+      sound = sound-after (h .sound) x;
+      inside = subst (λ (x : ℕ). x ≤ length l) (sym a) k;
+      steps = subst (λ (x : ℕ). (shown (after s r)) .done ≤ x) (sym a) (done-after s r (h .steps));
+      anchored = anchored-after l s r h q k (s .opened) refl (x .follows);
+    }
+
+-- the first state
+pub holds-first : (l : List ℕ) (c : Check) → Small c → 24 ≤ length l → Holds l (first c)
+unfolding first shown given lengthOf
+holds-first l c m h =
+    record { sound = sound-first c m; inside = h; steps = omega arith; anchored = λ o e. absurd (Option·none-ne-some o e) }

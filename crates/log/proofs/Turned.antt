@@ -1,0 +1,250 @@
+-- A turn of the pass reads the record that `readRec` reads: the numbers after it are those of the state after it. Assumes nothing.
+use Prim.Native.Nat.{ℕ, zero, suc, _+_, _-_, _*_, _≤_, _<_}
+use native.Mathlib.Nat.{not-suc-le-zero}
+use native.Mathlib.Numerals.{add-one}
+use native.Mathlib.Omega.{arith}
+use mathlib.Core.Path.{_≡_, refl, sym, ap, _∙_, subst}
+use mathlib.Core.Logic.{_⊎_, inl, inr, ⊎-elim}
+use mathlib.Core.Bool.{Bool, true, false}
+use mathlib.Core.List.{List, [], _∷_, _++_}
+use mathlib.Core.Option.{Option, some, none}
+use lib.ListN.{length, drop, getD}
+use lib.Seq.{drop-cons}
+use lib.Dec.{eqb, leb}
+use borrow.Author.Tests.{eq-eqb, ne-eqb, le-leb, lt-leb}
+use Rattle.field.specs.Test.{both, all, pick, given, when, bind, there}
+use Rattle.field.specs.Bytes.{starts, le2, le4, most4}
+use Rattle.field.proofs.Part.{split}
+use Rattle.page.specs.Page.{rowsOf, keyOf, ascendRecords}
+use Rattle.page.proofs.Rows.{length-rowsOf}
+use Rattle.log.specs.Record.{Begin, Rec, LB, LO, LI, LM, LE, begin, out, into, modify, end, lengthOf, kindOf, carried, size, encode}
+use Rattle.log.specs.Plan.{Step, takeOut, bringIn, point, close, plan}
+use Rattle.log.specs.Log.{Open, State, largest, largestMoved, lkEnded, going, openedBy, lkBy, unitBy, after, beginOk, readBegin, taken, planned, plannedFirst, expected, readRec}
+use Rattle.log.specs.Stand.{stands, standsIn, standsModify, standsOut, standsBegin}
+use Rattle.log.specs.Scan.{bytesOf, latest, keyIn, shown, lost, begun, went, ended, stepped, turned}
+use Rattle.log.specs.declared.scan.Walk.{Walk}
+use Rattle.log.proofs.Stand.{stands-in}
+
+-- ---- the largest key moved, record by record
+
+most : (a b : ℕ) → ℕ
+most a b = pick (leb a b) b a
+
+most-high : (a b : ℕ) → a ≤ b → most a b ≡ b
+unfolding most pick
+most-high a b h = rw (le-leb a b h)
+
+most-low : (a b : ℕ) → b ≤ a → most a b ≡ a
+unfolding most pick
+most-low a b h =
+    split b a
+    (λ k. rw (lt-leb a b k))
+    (λ k. let e : a ≡ b = omega arith in rw (le-leb a b k) (sym e))
+
+most-turn : (a b : ℕ) → most a b ≡ most b a
+most-turn a b =
+    split a b
+    (λ k. let h : a ≤ b = omega arith in most-high a b h ∙ sym (most-low b a h))
+    (λ k. most-low a b k ∙ sym (most-high b a k))
+
+most-three : (a b c : ℕ) → most (most a b) c ≡ most a (most b c)
+most-three a b c =
+    split a b
+    (λ k. let h : a ≤ b = omega arith in
+    split b c
+    (λ j. let i : b ≤ c = omega arith in let q : a ≤ c = omega arith in rw (most-high a b h, most-high b c i, most-high a c q))
+    (λ j. rw (most-high a b h, most-low b c j, most-high a b h)))
+    (λ k. split b c
+    (λ j. let i : b ≤ c = omega arith in rw (most-low a b k, most-high b c i))
+    (λ j. let q : c ≤ a = omega arith in rw (most-low a b k, most-low b c j, most-low a b k, most-low a c q)))
+
+most-nothing : (a : ℕ) → most 0 a ≡ a
+most-nothing a = most-high 0 a (omega arith)
+
+largest-most : (m : ℕ) (rs : List (List ℕ)) → largest m rs ≡ most m (largest 0 rs)
+unfolding largest most
+largest-most m [] = sym (unfold most in most-low m 0 (omega arith))
+largest-most m (r ∷ rs) =
+    let k : ℕ = keyOf r in
+    largest-most (pick (leb m k) k m) rs
+    ∙ most-three m k (largest 0 rs)
+    ∙ ap (most m) (sym (largest-most k rs))
+    ∙ ap (λ (x : ℕ). most m (largest x rs)) (sym (most-nothing k))
+
+moved-most : (m : ℕ) (did : List Rec) → largestMoved m did ≡ most m (largestMoved 0 did)
+unfolding largestMoved
+moved-most m [] = sym (most-low m 0 (omega arith))
+moved-most m (r ∷ did) =
+    moved-most (largest m (carried r)) did
+    ∙ ap (λ (x : ℕ). most x (largestMoved 0 did)) (largest-most m (carried r))
+    ∙ most-three m (largest 0 (carried r)) (largestMoved 0 did)
+    ∙ ap (most m) (sym (moved-most (largest 0 (carried r)) did))
+
+-- the largest key moved after one record more
+moved-more : (r : Rec) (did : List Rec) → largestMoved 0 (r ∷ did) ≡ largest (largestMoved 0 did) (carried r)
+unfolding largestMoved
+moved-more r did =
+    moved-most (largest 0 (carried r)) did ∙ most-turn (largest 0 (carried r)) (largestMoved 0 did) ∙ sym (largest-most (largestMoved 0 did) (carried r))
+
+-- ---- the state after a record, by its numbers
+
+-- the unit's first record
+first-of : (r d : Rec) (did : List Rec) → length (carried (getD (r ∷ did) (length did) d)) ≡ pick (eqb (length did) 0) (length (carried r)) (length (carried (getD did (length did - 1) d)))
+unfolding pick
+first-of r d [] = refl
+first-of r d (x ∷ did) =
+    let e : eqb (suc (length did)) 0 ≡ false = ne-eqb (suc (length did)) 0 (λ q. omega arith) in
+    let f : suc (length did) - 1 ≡ length did = omega arith in
+    rw (e, f)
+
+-- after an LO, an LI or an LM
+module _ (s : State) (o : Open) (r : Rec) (op : s .opened ≡ some o) (u : unitBy r (s .unit) ≡ s .unit) (k : lkBy r (s .lk) (some o) ≡ s .lk) (w : openedBy r (some o) ≡ some (going r o)) where
+  shown-went : shown (after s r) ≡ went (shown s) (size r) (length (carried r)) (keyIn r) (largest (largestMoved 0 (o .did)) (carried r))
+  unfolding shown after went given there going bytesOf latest
+  shown-went =
+      let e1 : s .at + size r - (lengthOf begin 0 + (size r + bytesOf (o .did))) ≡ s .at - (lengthOf begin 0 + bytesOf (o .did)) = omega arith in
+      let e2 : suc (length (o .did)) ≡ length (o .did) + 1 = omega arith in
+      let e3 : s .at + size r - size r ≡ s .at = omega arith in
+      let e4 : suc (length (o .did)) - 1 ≡ length (o .did) = omega arith in
+      rw (op, u, k, w, e1, e4, first-of r (LE 0) (o .did), e2, e3, moved-more r (o .did))
+
+-- after an LB
+shown-begun : (s : State) (g : Begin) → s .opened ≡ none → g .unit ≡ s .unit + 1 → shown (after s (LB g)) ≡ begun (shown s)
+unfolding shown after begun given there bytesOf latest unitBy lkBy openedBy size carried kindOf keyIn largestMoved lengthOf
+shown-begun s g op u =
+    let e : s .at + 44 - 44 ≡ s .at = omega arith in
+    rw (op, u, e)
+
+-- LK after a unit has ended
+ended-there : (t : Bool) (k : ℕ) (lk : Option ℕ) → there (pick t (some k) lk) ≡ pick t true (there lk)
+unfolding there pick
+ended-there true k lk = refl
+ended-there false k lk = refl
+
+ended-key : (t : Bool) (k : ℕ) (lk : Option ℕ) → given (pick t (some k) lk) 0 (λ (n : ℕ). n) ≡ pick t k (given lk 0 (λ (n : ℕ). n))
+unfolding given pick
+ended-key true k lk = refl
+ended-key false k lk = refl
+
+-- after an LE
+shown-ended : (s : State) (o : Open) (u : ℕ) → s .opened ≡ some o → shown (after s (LE u)) ≡ ended (shown s) (eqb (o .start .type) 1)
+unfolding shown after ended unitBy lkBy openedBy lkEnded size carried kindOf lengthOf
+shown-ended s o u op =
+    let t : Bool = eqb (o .start .type) 1 in
+    let e : given (some o) (s .lk) (λ (x : Open). pick (eqb (x .start .type) 1) (some (largestMoved 0 (x .did))) (s .lk)) ≡ pick t (some (largestMoved 0 (o .did))) (s .lk) = unfold given in refl in
+    let z : there {A = Open} none ≡ false = unfold there in refl in
+    rw (op, e, ended-there t (largestMoved 0 (o .did)) (s .lk), ended-key t (largestMoved 0 (o .did)) (s .lk)) (unfold given there in refl)
+
+-- ---- what is read, by one test
+
+-- a value that is there where a test holds
+pub given-when : {A B : Type 0} (f : A → B) (b : B) (t : Bool) (x : A) → given (when t x) b f ≡ pick t (f x) b
+unfolding given when pick
+given-when f b true x = refl
+given-when f b false x = refl
+
+-- a value that must be there and pass a test
+given-one : {A B : Type 0} (T : A → Bool) (f : A → B) (b : B) (x : A) → given (bind (some x) (λ r. when (T r) r)) b f ≡ pick (T x) (f x) b
+unfolding bind
+given-one T f b x = given-when f b (T x) x
+
+given-both : {A B : Type 0} (T : A → Bool) (f : A → B) (b : B) (a : Bool) (x : A) → given (bind (when a x) (λ r. when (T r) r)) b f ≡ pick (both a (T x)) (f x) b
+unfolding bind when both given pick
+given-both T f b true x = given-when f b (T x) x
+given-both T f b false x = refl
+
+-- the record that is expected, tested
+read-is : (s : State) (m : List ℕ) (x : Option Rec) → expected (s .unit) (s .opened) m ≡ x → readRec s m ≡ bind x (λ r. when (stands (s .number + 1) r m) r)
+unfolding readRec stands
+read-is s m x e = rw e
+
+-- ---- the planned step
+
+module _ (s : State) (o : Open) (op : s .opened ≡ some o) (m : List ℕ) where
+  -- what is read where the step x comes next
+  Reads : Step → Type 0
+  Reads x =
+      stepped (shown s) m (eqb (o .start .type) 1) x ≡ given (bind (planned x (o .did) m) (λ r. when (stands (s .number + 1) r m) r)) lost (λ r. shown (after s r))
+
+  moved-is : (shown s) .moved ≡ largestMoved 0 (o .did)
+  unfolding shown given
+  moved-is = rw op
+
+  out-shown : (org dest k : ℕ) (rs : List (List ℕ)) → length rs ≡ k
+      → shown (after s (LO org dest rs)) ≡ went (shown s) (lengthOf out k) k 0 (largest ((shown s) .moved) rs)
+  unfolding size carried kindOf keyIn unitBy lkBy openedBy bind
+  out-shown org dest k rs n =
+      rw (← n)
+      (shown-went s o (LO org dest rs) op refl refl refl ∙ ap (λ (x : ℕ). went (shown s) (lengthOf out (length rs)) (length rs) 0 (largest x rs)) (sym moved-is))
+
+  in-shown : (org dest back : ℕ) (rs : List (List ℕ)) → shown (after s (LI org dest back rs)) ≡ went (shown s) (lengthOf into 0) 0 0 ((shown s) .moved)
+  unfolding size carried kindOf keyIn unitBy lkBy openedBy bind largest
+  in-shown org dest back rs = shown-went s o (LI org dest back rs) op refl refl refl ∙ ap (went (shown s) (lengthOf into 0) 0 0) (sym moved-is)
+
+  modify-shown : (base old new key : ℕ) → shown (after s (LM base old new key)) ≡ went (shown s) (lengthOf modify 0) 0 key ((shown s) .moved)
+  unfolding size carried kindOf keyIn unitBy lkBy openedBy bind largest
+  modify-shown base old new key = shown-went s o (LM base old new key) op refl refl refl ∙ ap (went (shown s) (lengthOf modify 0) 0 key) (sym moved-is)
+
+  number-is : (shown s) .number ≡ s .number
+  unfolding shown
+  number-is = refl
+
+  step-out : (org dest : ℕ) → Reads (takeOut org dest)
+  unfolding Reads stepped planned standsOut
+  step-out org dest =
+      let k : ℕ = le2 m 16 in
+      let rs : List (List ℕ) = rowsOf 16 k (drop 20 m) in
+      sym (given-both (λ r. stands (s .number + 1) r m) (λ r. shown (after s r)) lost (all (leb 1 k ∷ leb k 15 ∷ ascendRecords 0 rs ∷ [])) (LO org dest rs)
+      ∙ rw (out-shown org dest k rs (length-rowsOf 16 k (drop 20 m)), number-is))
+
+  step-in : (org dest back : ℕ) → pick (eqb back 1) ((shown s) .rows) ((shown s) .first) ≡ length (taken back (o .did)) → Reads (bringIn org dest back)
+  unfolding Reads stepped planned
+  step-in org dest back e =
+      sym (given-one (λ r. stands (s .number + 1) r m) (λ r. shown (after s r)) lost (LI org dest back (taken back (o .did)))
+      ∙ rw (in-shown org dest back (taken back (o .did)), stands-in (s .number + 1) org dest back (taken back (o .did)) m, number-is, e))
+
+  step-point : (base old new : ℕ) (other : Bool) → Reads (point base old new other)
+  unfolding Reads stepped planned standsModify
+  step-point base old new other =
+      sym (given-one (λ r. stands (s .number + 1) r m) (λ r. shown (after s r)) lost (LM base old new (le4 m 20))
+      ∙ rw (modify-shown base old new (le4 m 20), number-is))
+
+  step-close : (u : ℕ) → Reads (close u)
+  unfolding Reads stepped planned
+  step-close u =
+      sym (given-one (λ r. stands (s .number + 1) r m) (λ r. shown (after s r)) lost (LE u)
+      ∙ rw (shown-ended s o u op, number-is))
+
+  -- an LI says how many records its LO carried, which is the record before or the unit's first
+  unfoldable pub Counted : Step → Type 0
+  Counted x = (org dest back : ℕ) → x ≡ bringIn org dest back → pick (eqb back 1) ((shown s) .rows) ((shown s) .first) ≡ length (taken back (o .did))
+
+  step-any : (x : Step) → Counted x → Reads x
+  unfolding Counted
+  step-any (takeOut org dest) f = step-out org dest
+  step-any (bringIn org dest back) f = step-in org dest back (f org dest back refl)
+  step-any (point base old new other) f = step-point base old new other
+  step-any (close u) f = step-close u
+
+  -- the record that an open unit reads next
+  pub open-reads : (x : Step) (xs : List Step) → o .todo ≡ x ∷ xs → Counted x
+      → stepped (shown s) m (eqb (o .start .type) 1) x ≡ given (readRec s m) lost (λ r. shown (after s r))
+  unfolding Reads expected plannedFirst
+  open-reads x xs t f =
+      let e : expected (s .unit) (s .opened) m ≡ planned x (o .did) m = rw (op, t) in
+      step-any x f ∙ ap (λ (y : Option Rec). given y lost (λ r. shown (after s r))) (sym (read-is s m (planned x (o .did) m) e))
+
+-- the record that comes next where no unit is open
+pub shut-reads : (s : State) (m : List ℕ) → s .opened ≡ none
+    → pick (standsBegin ((shown s) .number + 1) ((shown s) .unit + 1) m) (begun (shown s)) lost ≡ given (readRec s m) lost (λ r. shown (after s r))
+unfolding standsBegin expected
+shut-reads s m op =
+    let g : Begin = readBegin (s .unit + 1) m in
+    let gu : g .unit ≡ s .unit + 1 = unfold readBegin in refl in
+    let n : (shown s) .number ≡ s .number = unfold shown in refl in
+    let u : (shown s) .unit ≡ s .unit = unfold shown in refl in
+    let e : expected (s .unit) (s .opened) m ≡ when (beginOk g) (LB g) = rw op in
+    let r : given (readRec s m) lost (λ r. shown (after s r)) ≡ pick (both (beginOk g) (stands (s .number + 1) (LB g) m)) (shown (after s (LB g))) lost =
+    ap (λ (y : Option Rec). given y lost (λ r. shown (after s r))) (read-is s m (when (beginOk g) (LB g)) e)
+    ∙ given-both (λ r. stands (s .number + 1) r m) (λ r. shown (after s r)) lost (beginOk g) (LB g) in
+    sym (r ∙ rw (shown-begun s g op gu, n, u))

@@ -1,0 +1,154 @@
+-- The ways through a turn of the pass: a record that is not there, and one that is, with its bytes. Assumes nothing.
+use Prim.Native.Nat.{ℕ, _+_, _-_, _*_, _≤_, _<_}
+use native.Mathlib.Omega.{arith}
+use mathlib.Core.Path.{_≡_, refl, sym, ap, _∙_}
+use mathlib.Core.Bool.{Bool, true, false, not}
+use mathlib.Core.List.{List, [], _∷_}
+use lib.ListN.{length, take, drop, getD}
+use lib.Seq.{getD-drop}
+use borrow.Rule.Slice.PartAt.{part-to-end}
+use lib.Dec.{eqb, leb}
+use borrow.Author.Tests.{leb-true, lt-leb, le-leb, not-true, not-false}
+use Rattle.field.specs.Test.{both, all, pick}
+use Rattle.field.specs.Bytes.{starts, le2, le4, most4}
+use Rattle.field.proofs.Test.{all-head, all-tail, both-1, both-2, both-false, pick-true, pick-false}
+use Rattle.page.specs.Page.{rowsOf, ascendRecords}
+use Rattle.page.proofs.Rows.{length-rowsOf}
+use Rattle.log.specs.Record.{Begin, Rec, LB, LO, LM, LE, into, lengthOf, kindOf, carried, size, encode}
+use Rattle.log.specs.Plan.{Step, takeOut, bringIn, point, close, plan}
+use Rattle.log.specs.Table.{kinds, kindAt}
+use Rattle.log.specs.Log.{largest, beginOk, readBegin}
+use Rattle.log.specs.Stand.{stands, standsIn, standsModify, standsOut, standsBegin}
+use Rattle.log.specs.Scan.{lost, begun, went, ended, stepped, turned}
+use Rattle.log.specs.declared.scan.Walk.{Walk}
+use Rattle.log.specs.declared.steps.Planned.{Planned}
+use Rattle.log.specs.declared.steps.Planned.the-variants.{Out, In, Point, Close}
+use Rattle.log.specs.Steps.{stepOf}
+use Rattle.log.proofs.Stand.{both-none}
+
+-- the record is not there
+pub lost-pick : (x v : Walk) (z t : Bool) → x ≡ lost → z ≡ t → not z ≡ true → x ≡ pick t v lost
+lost-pick x v z t e q h = e ∙ sym (pick-false t _ _ (sym q ∙ not-true z h))
+
+-- it is there
+pub on-pick : (x v : Walk) (z t : Bool) → x ≡ v → z ≡ t → not z ≡ false → x ≡ pick t v lost
+on-pick x v z t e q h = e ∙ sym (pick-true t _ _ (sym q ∙ not-false z h))
+
+-- ---- a record that stands there has its bytes there
+
+stands-room : (n : ℕ) (r : Rec) (m : List ℕ) → stands n r m ≡ true → size r ≤ length m
+unfolding stands
+stands-room n r m e = leb-true (size r) (length m) (all-head _ _ (all-tail _ _ e))
+
+module _ (n : ℕ) (m : List ℕ) (z : Bool) (h : not z ≡ false) where
+  pub end-room : (u : ℕ) → z ≡ stands n (LE u) m → 16 ≤ length m
+  unfolding size carried kindOf lengthOf
+  end-room u e = stands-room n (LE u) m (sym e ∙ not-false z h)
+
+  pub modify-room : (base old new : ℕ) → z ≡ standsModify n base old new m → 28 ≤ length m
+  unfolding standsModify size carried kindOf lengthOf
+  modify-room base old new e = stands-room n (LM base old new (le4 m 20)) m (sym e ∙ not-false z h)
+
+  pub in-room : (org dest back k : ℕ) → z ≡ standsIn n org dest back k m → 24 ≤ length m
+  unfolding standsIn lengthOf
+  in-room org dest back k e = leb-true 24 (length m) (all-head _ _ (all-tail _ _ (sym e ∙ not-false z h)))
+
+  pub begin-room : (u : ℕ) → z ≡ standsBegin n u m → 44 ≤ length m
+  unfolding standsBegin size carried kindOf lengthOf
+  begin-room u e = stands-room n (LB (readBegin u m)) m (both-2 _ _ (sym e ∙ not-false z h))
+
+  out-size : (org dest : ℕ) → size (LO org dest (rowsOf 16 (le2 m 16) (drop 20 m))) ≡ 20 + 16 * le2 m 16
+  unfolding size carried kindOf lengthOf
+  out-size org dest = rw (length-rowsOf 16 (le2 m 16) (drop 20 m))
+
+  pub out-room : (org dest : ℕ) → z ≡ standsOut n org dest m → (20 + 16 * le2 m 16 ≤ length m) × (le2 m 16 ≤ 15)
+  unfolding standsOut
+  out-room org dest e =
+      let t = sym e ∙ not-false z h in (
+        rw (out-size org dest) at (stands-room n (LO org dest (rowsOf 16 (le2 m 16) (drop 20 m))) m (both-2 _ _ t)),
+        leb-true (le2 m 16) 15 (all-head _ _ (all-tail _ _ (both-1 _ _ t))),
+      )
+
+-- ---- numbers that are used up
+
+stands-full : (n : ℕ) (r : Rec) (m : List ℕ) → most4 < n → stands n r m ≡ false
+unfolding stands all
+stands-full n r m h = both-false _ _ (lt-leb n most4 h)
+
+pub begin-last : (w : Walk) (m : List ℕ) (x : Walk) → x ≡ lost → w .unit ≡ 4294967295 → x ≡ pick (standsBegin (w .number + 1) (w .unit + 1) m) (begun w) lost
+unfolding standsBegin beginOk all readBegin
+begin-last w m x e h =
+    let k : leb (w .unit + 1) most4 ≡ false = lt-leb (w .unit + 1) most4 (omega arith) in
+    e ∙ sym (pick-false _ _ _ (both-false _ _ (both-false _ _ k)))
+
+step-full : (w : Walk) (m : List ℕ) (t : Bool) (s : Step) → most4 < w .number + 1 → stepped w m t s ≡ lost
+unfolding stepped standsOut standsIn standsModify all
+step-full w m t (takeOut org dest) h = pick-false _ _ _ (both-none _ _ (stands-full (w .number + 1) _ m h))
+step-full w m t (bringIn org dest back) h = pick-false _ _ _ (both-false _ _ (lt-leb (w .number + 1) most4 h))
+step-full w m t (point base old new other) h = pick-false _ _ _ (stands-full (w .number + 1) _ m h)
+step-full w m t (close u) h = pick-false _ _ _ (stands-full (w .number + 1) _ m h)
+
+either : (t : Bool) (a b : Walk) → a ≡ lost → b ≡ lost → pick t a b ≡ lost
+unfolding pick
+either true a b p q = p
+either false a b p q = q
+
+pub turned-full : (l : List ℕ) (w x : Walk) → x ≡ lost → w .number ≡ 4294967295 → x ≡ turned l w
+unfolding turned standsBegin
+turned-full l w x e h =
+    let k : most4 < w .number + 1 = omega arith in
+    e ∙ sym (either (w .opened) _ _ (step-full w _ _ _ k) (pick-false _ _ _ (both-none _ _ (stands-full (w .number + 1) _ _ k))))
+
+-- ---- the record is there: the numbers after it
+
+module _ (w : Walk) (m : List ℕ) (t q : Bool) (g : not q ≡ false) (x : Walk) where
+  pub out-on! : (org dest z k v : ℕ) → x ≡ went w z k 0 v → z ≡ lengthOf (kindAt 2) k → k ≡ le2 m 16 → v ≡ largest (w .moved) (rowsOf 16 k (drop 20 m))
+      → q ≡ standsOut (w .number + 1) org dest m → x ≡ stepped w m t (takeOut org dest)
+  unfolding stepped kindAt kinds
+  out-on! org dest z k v e ez ek ev eq = on-pick x _ q _ (e ∙ rw (ez, ev, ek)) eq g
+
+  pub in-on! : (org dest back z r : ℕ) → x ≡ went w z 0 0 (w .moved) → z ≡ lengthOf (kindAt 3) 0 → r ≡ pick (eqb back 1) (w .rows) (w .first)
+      → q ≡ standsIn (w .number + 1) org dest back r m → x ≡ stepped w m t (bringIn org dest back)
+  unfolding stepped kindAt kinds
+  in-on! org dest back z r e ez er eq = on-pick x _ q _ (e ∙ rw ez) (eq ∙ rw er) g
+
+  pub point-on! : (base old new z k : ℕ) (other : Bool) → x ≡ went w z 0 k (w .moved) → z ≡ lengthOf (kindAt 4) 0 → k ≡ le4 m 20
+      → q ≡ standsModify (w .number + 1) base old new m → x ≡ stepped w m t (point base old new other)
+  unfolding stepped kindAt kinds
+  point-on! base old new z k other e ez ek eq = on-pick x _ q _ (e ∙ rw (ez, ek)) eq g
+
+-- ---- the turn, by what the code lends
+
+module _ (l : List ℕ) (w x : Walk) where
+  pub begin-turned : not (w .opened) ≡ true → x ≡ pick (standsBegin (w .number + 1) (w .unit + 1) (take (length l - w .at) (drop (w .at) l))) (begun w) lost → x ≡ turned l w
+  unfolding turned
+  begin-turned h e =
+      let y : x ≡ pick (standsBegin (w .number + 1) (w .unit + 1) (drop (w .at) l)) (begun w) lost = rw part-to-end at e in
+      y ∙ sym (pick-false _ _ _ (not-true (w .opened) h))
+
+  pub step-turned : not (w .opened) ≡ false → (s : Step) → s ≡ getD (plan (readBegin (w .unit) (take (length l - w .begin) (drop (w .begin) l)))) (w .done) (close (w .unit))
+      → x ≡ stepped w (take (length l - w .at) (drop (w .at) l)) (eqb (getD l (w .begin + 16) 0) 1) s → x ≡ turned l w
+  unfolding turned
+  step-turned h s es e =
+      let ys : s ≡ getD (plan (readBegin (w .unit) (drop (w .begin) l))) (w .done) (close (w .unit)) = rw part-to-end at es in
+      let y : x ≡ stepped w (drop (w .at) l) (eqb (getD l (w .begin + 16) 0) 1) s = rw part-to-end at e in
+      y ∙ sym (pick-true _ _ _ (not-false (w .opened) h) ∙ rw (getD-drop (w .begin) l 16 0, ← ys))
+
+-- ---- the step that the code has
+
+module _ (w : Walk) (m : List ℕ) (t : Bool) (p : Planned) (x : Walk) where
+  pub step-out! : (org dest : ℕ) → p ≡ Out org dest → x ≡ stepped w m false (takeOut org dest) → x ≡ stepped w m t (stepOf p)
+  unfolding stepOf stepped
+  step-out! org dest q e = e ∙ rw q
+
+  pub step-in! : (org dest back : ℕ) → p ≡ In org dest back → x ≡ stepped w m false (bringIn org dest back) → x ≡ stepped w m t (stepOf p)
+  unfolding stepOf stepped
+  step-in! org dest back q e = e ∙ rw q
+
+  pub step-point! : (base old new : ℕ) (other : Bool) → p ≡ Point base old new other → x ≡ stepped w m false (point base old new false) → x ≡ stepped w m t (stepOf p)
+  unfolding stepOf stepped
+  step-point! base old new other q e = e ∙ rw q
+
+  pub step-close! : (u : ℕ) → p ≡ Close u → x ≡ stepped w m t (close u) → x ≡ stepped w m t (stepOf p)
+  unfolding stepOf stepped
+  step-close! u q e = e ∙ rw q

@@ -1,0 +1,88 @@
+-- `log::scan::turn` meets its contract: an LB where no unit is open, else the planned step. Assumes nothing.
+use native.Mathlib.Omega.{arith}
+use mathlib.Core.Path.{_≡_}
+use mathlib.Core.Bool.{true}
+use lib.ListN.{length, length-drop}
+use borrow.Author.Tests.{not-false}
+use borrow.Rule.Slice.PartAt.{part-to-end}
+use Rattle.log.proofs.Ways.{turned-full, begin-turned, step-turned}
+use borrow.Author.Needs.{needs}
+use Rattle.log.proofs.scan.turn.Statement.{statement}
+use Rattle.log.proofs.scan.turn.Tie as tie
+
+lost-requires : tie.Need-lost-requires
+lost-requires c κs = search needs
+
+returns : tie.Need-returns
+returns c = turned-full (c .before .before .before .before .args .l .now) _ _ (c .lost .ensures) (c .before .if1 .taken)
+
+sub-begin-turn : tie.Need-sub-begin-turn
+sub-begin-turn c = search needs
+
+part-begin-turn-start : tie.Need-part-begin-turn-start
+part-begin-turn-start c = search needs
+
+part-begin-turn-end : tie.Need-part-begin-turn-end
+part-begin-turn-end c = search needs
+
+begin-turn-requires : tie.Need-begin-turn-requires
+begin-turn-requires c κs = search needs
+
+returns-2 : tie.Need-returns-2
+returns-2 c = begin-turned (c .before .before .before .before .before .before .before .args .l .now) _ _ (c .before .before .if2 .taken) (c .begin-turn .ensures)
+
+add-compact : tie.Need-add-compact
+add-compact c = omega (arith, c .before .before .before .before .before .pre .room (not-false _ (c .if2 .left)))
+
+shared-slice-read-compact : tie.Need-shared-slice-read-compact
+shared-slice-read-compact c = omega (arith, c .before .before .before .before .before .before .pre .room (not-false _ (c .before .if2 .left)))
+
+sub-step-at : tie.Need-sub-step-at
+sub-step-at c = omega (arith, c .before .before .before .before .before .before .pre .room (not-false _ (c .before .if2 .left)))
+
+part-step-at-start : tie.Need-part-step-at-start
+part-step-at-start c = omega (arith, c .before .before .before .before .before .before .pre .room (not-false _ (c .before .if2 .left)))
+
+part-step-at-end : tie.Need-part-step-at-end
+part-step-at-end c = search needs
+
+step-at-requires : tie.Need-step-at-requires
+step-at-requires c κs = let a = c .before .before .before .before .before .before .before in let h : a .args .w .opened ≡ true = not-false _ (c .before .before .if2 .left) in (rw (part-to-end, length-drop) (omega (arith, a .pre .room h)), rw part-to-end (a .pre .start h))
+
+sub-step-turn : tie.Need-sub-step-turn
+sub-step-turn c = search needs
+
+part-step-turn-start : tie.Need-part-step-turn-start
+part-step-turn-start c = search needs
+
+part-step-turn-end : tie.Need-part-step-turn-end
+part-step-turn-end c = search needs
+
+step-turn-requires : tie.Need-step-turn-requires
+step-turn-requires c κs = search needs
+
+returns-3 : tie.Need-returns-3
+returns-3 c = step-turned (c .before .before .before .before .before .before .before .before .before .before .args .l .now) _ _ (c .before .before .before .before .before .if2 .left) _ (c .before .before .step-at .ensures) (c .step-turn .ensures)
+
+pub turn-spec : {M : Type 1} → statement M
+turn-spec =
+    tie.close
+    (tie.spec
+    lost-requires
+    returns
+    sub-begin-turn
+    part-begin-turn-start
+    part-begin-turn-end
+    begin-turn-requires
+    returns-2
+    add-compact
+    shared-slice-read-compact
+    sub-step-at
+    part-step-at-start
+    part-step-at-end
+    step-at-requires
+    sub-step-turn
+    part-step-turn-start
+    part-step-turn-end
+    step-turn-requires
+    returns-3)

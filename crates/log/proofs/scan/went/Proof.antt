@@ -1,0 +1,24 @@
+-- `log::scan::went` meets its contract. Assumes nothing.
+use Rattle.log.specs.Scan.{went}
+use borrow.Author.Needs.{needs}
+use Rattle.log.proofs.scan.went.Statement.{statement}
+use Rattle.log.proofs.scan.went.Tie as tie
+
+add-t6 : tie.Need-add-t6
+add-t6 c = search needs
+
+add-t7 : tie.Need-add-t7
+add-t7 c = search needs
+
+add-t8 : tie.Need-add-t8
+add-t8 c = search needs
+
+first-rows-requires : tie.Need-first-rows-requires
+first-rows-requires c κs = search needs
+
+returns : tie.Need-returns
+unfolding went
+returns c = rw (c .first-rows .ensures)
+
+pub went-spec : {M : Type 1} → statement M
+went-spec = tie.close (tie.spec add-t6 add-t7 add-t8 first-rows-requires returns)

@@ -1,0 +1,371 @@
+// One pass over the log.
+ghost use mathlib.Core.Path.{_≡_};
+ghost use mathlib.Core.Bool.{true, false};
+ghost use Prim.Native.Nat.{_+_, _-_, _*_, _≤_, _<_};
+ghost use lib.ListN.{length, drop, getD};
+ghost use lib.Dec.{eqb};
+ghost use Rattle.field.specs.Test.{pick};
+ghost use Rattle.log.specs.Plan.{takeOut, bringIn, point, close};
+ghost use Rattle.log.specs.Stand.{standsBegin};
+ghost use Rattle.log.specs.Steps.{stepOf};
+ghost use Rattle.log.specs.Scan.{lost, begun, went, ended, stepped, turned, Ready, topped, noted, live, finished, scanned};
+use crate::kind;
+use crate::reading;
+use crate::steps;
+use crate::steps::Planned;
+use crate::writing;
+
+// What is known after a record: the log's end and its last number, the last unit, LK; of an open unit where its LB stands, how many of
+// its steps are done, where the record before stands, how many records that one and the unit's first carry, the key of the LM before (0 if
+// the record before is no LM), the largest key moved. Where the log's form is broken, ok is false and all else zero.
+pub struct Walk {
+    pub ok: bool,
+    pub at: usize,
+    pub number: u32,
+    pub unit: u32,
+    pub known: bool,
+    pub lk: u32,
+    pub opened: bool,
+    pub begin: usize,
+    pub done: usize,
+    pub last: usize,
+    pub rows: u16,
+    pub first: u16,
+    pub key: u32,
+    pub moved: u32,
+}
+
+// The whole pass: what is known at the log's end, whether a record ends at the bytes forced, and its number.
+pub struct Scan {
+    pub walk: Walk,
+    pub ends: bool,
+    pub forced: u32,
+}
+
+// Whether a record was found that ends at the bytes forced, and its number.
+pub struct Mark {
+    pub ends: bool,
+    pub number: u32,
+}
+
+// Log form broken.
+fn lost() -> Walk
+    ensures { λ r. ⌜ r ≡ lost ⌝ }
+{
+    Walk {
+        ok: false,
+        at: 0,
+        number: 0,
+        unit: 0,
+        known: false,
+        lk: 0,
+        opened: false,
+        begin: 0,
+        done: 0,
+        last: 0,
+        rows: 0,
+        first: 0,
+        key: 0,
+        moved: 0,
+    }
+}
+
+// How many records the unit's first record carries, after one that carries `rows`.
+fn first_rows(done: usize, rows: u16, first: u16) -> u16
+    ensures { λ r. ⌜ r ≡ pick (eqb done 0) rows first ⌝ }
+{
+    if done == 0 {
+        return rows;
+    }
+    first
+}
+
+// After an LO, LI or LM of so many bytes.
+fn went(w: Walk, long: usize, rows: u16, key: u32, moved: u32) -> Walk
+    requires { ⌜ (w .number < 4294967295) × (w .at + long < 18446744073709551616) × (w .done < w .at + long) ⌝ }
+    ensures { λ r. ⌜ r ≡ went w long rows key moved ⌝ }
+{
+    Walk {
+        ok: true,
+        at: w.at + long,
+        number: w.number + 1,
+        unit: w.unit,
+        known: w.known,
+        lk: w.lk,
+        opened: true,
+        begin: w.begin,
+        done: w.done + 1,
+        last: w.at,
+        rows,
+        first: first_rows(w.done, rows, w.first),
+        key,
+        moved,
+    }
+}
+
+// An LB at the front of m.
+fn begin_turn(m: &[u8], w: Walk) -> Walk
+    requires { ⌜ (w .number < 4294967295) × (w .at + length (now m) < 18446744073709551616) ⌝ }
+    ensures { λ r. ⌜ r ≡ pick (standsBegin (w .number + 1) (w .unit + 1) (now (m .entry))) (begun w) lost ⌝ }
+{
+    if w.unit == 4294967295 {
+        return lost();
+    }
+    if !reading::is_begin(m, w.number + 1, w.unit + 1) {
+        return lost();
+    }
+    let long = kind::size_of(kind::LB, 0);
+    Walk {
+        ok: true,
+        at: w.at + long,
+        number: w.number + 1,
+        unit: w.unit + 1,
+        known: w.known,
+        lk: w.lk,
+        opened: true,
+        begin: w.at,
+        done: 0,
+        last: w.at,
+        rows: 0,
+        first: 0,
+        key: 0,
+        moved: 0,
+    }
+}
+
+// The LO of a step at the front of m.
+fn out_turn(m: &[u8], w: Walk, org: u16, dest: u16) -> Walk
+    requires { ⌜ (w .number < 4294967295) × (w .at + length (now m) < 18446744073709551616) × (w .done ≤ w .at) ⌝ }
+    ensures { λ r. ⌜ r ≡ stepped w (now (m .entry)) false (takeOut org dest) ⌝ }
+{
+    if !reading::is_out(m, w.number + 1, org, dest) {
+        return lost();
+    }
+    let k = field::get2(m, 16);
+    let moved = reading::largest_key(m, w.moved, 20, k);
+    went(w, kind::size_of(kind::LO, k), k, 0, moved)
+}
+
+// How many records the LO carried that stands `back` records before.
+fn carried(w: Walk, back: u32) -> u16
+    ensures { λ r. ⌜ r ≡ pick (eqb back 1) (w .rows) (w .first) ⌝ }
+{
+    if back == 1 {
+        return w.rows;
+    }
+    w.first
+}
+
+// The LI of a step at the front of m.
+fn in_turn(m: &[u8], w: Walk, org: u16, dest: u16, back: u32) -> Walk
+    requires { ⌜ (w .number < 4294967295) × (w .at + length (now m) < 18446744073709551616) × (w .done ≤ w .at) ⌝ }
+    ensures { λ r. ⌜ r ≡ stepped w (now (m .entry)) false (bringIn org dest back) ⌝ }
+{
+    let rows = carried(w, back);
+    if !reading::is_in(m, 0, w.number + 1, org, dest, back, rows) {
+        return lost();
+    }
+    went(w, kind::size_of(kind::LI, 0), 0, 0, w.moved)
+}
+
+// The LM of a step at the front of m.
+fn point_turn(m: &[u8], w: Walk, base: u16, old: u16, new: u16) -> Walk
+    requires { ⌜ (w .number < 4294967295) × (w .at + length (now m) < 18446744073709551616) × (w .done ≤ w .at) ⌝ }
+    ensures { λ r. ⌜ r ≡ stepped w (now (m .entry)) false (point base old new false) ⌝ }
+{
+    if !reading::is_modify(m, 0, w.number + 1, base, old, new) {
+        return lost();
+    }
+    let key = field::get4(m, 20);
+    went(w, kind::size_of(kind::LM, 0), 0, key, w.moved)
+}
+
+// LK after a unit has ended: whether it is there.
+fn known_after(compact: bool, known: bool) -> bool
+    ensures { λ r. ⌜ r ≡ pick compact true known ⌝ }
+{
+    if compact {
+        return true;
+    }
+    known
+}
+
+// LK after a unit has ended.
+fn lk_after(compact: bool, moved: u32, lk: u32) -> u32
+    ensures { λ r. ⌜ r ≡ pick compact moved lk ⌝ }
+{
+    if compact {
+        return moved;
+    }
+    lk
+}
+
+// The LE of a unit at the front of m.
+fn end_turn(m: &[u8], w: Walk, compact: bool, unit: u32) -> Walk
+    requires { ⌜ (w .number < 4294967295) × (w .at + length (now m) < 18446744073709551616) ⌝ }
+    ensures { λ r. ⌜ r ≡ stepped w (now (m .entry)) compact (close unit) ⌝ }
+{
+    if !reading::is_end(m, 0, w.number + 1, unit) {
+        return lost();
+    }
+    let long = kind::size_of(kind::LE, 0);
+    Walk {
+        ok: true,
+        at: w.at + long,
+        number: w.number + 1,
+        unit: w.unit,
+        known: known_after(compact, w.known),
+        lk: lk_after(compact, w.moved, w.lk),
+        opened: false,
+        begin: 0,
+        done: 0,
+        last: 0,
+        rows: 0,
+        first: 0,
+        key: 0,
+        moved: 0,
+    }
+}
+
+// The record of a planned step at the front of m.
+fn step_turn(m: &[u8], w: Walk, compact: bool, x: Planned) -> Walk
+    requires { ⌜ (w .number < 4294967295) × (w .at + length (now m) < 18446744073709551616) × (w .done ≤ w .at) ⌝ }
+    ensures { λ r. ⌜ r ≡ stepped w (now (m .entry)) compact (stepOf x) ⌝ }
+{
+    match x {
+        Planned::Out { org, dest } => out_turn(m, w, org, dest),
+        Planned::In { org, dest, back } => in_turn(m, w, org, dest, back),
+        Planned::Point {
+            base,
+            old,
+            new,
+            other: _,
+        } => point_turn(m, w, base, old, new),
+        Planned::Close { unit } => end_turn(m, w, compact, unit),
+    }
+}
+
+// The next record of the log.
+fn turn(l: &[u8], w: Walk) -> Walk
+    requires { ⌜ Ready (now l) w ⌝ }
+    ensures { λ r. ⌜ r ≡ turned (now (l .entry)) w ⌝ }
+{
+    let at = w.at;
+    let begin = w.begin;
+    if w.number == 4294967295 {
+        return lost();
+    }
+    if !w.opened {
+        return begin_turn(&l[at..], w);
+    }
+    let compact = l[begin + 16] == 1;
+    let x = steps::step_at(&l[begin..], w.unit, w.done);
+    step_turn(&l[at..], w, compact, x)
+}
+
+// What the check record says.
+fn top(l: &[u8]) -> Walk
+    ensures { λ r. ⌜ r ≡ topped (now (l .entry)) ⌝ }
+{
+    let long = kind::size_of(kind::LC, 0);
+    if l.len() < long {
+        return lost();
+    }
+    let number = field::get4(l, 4);
+    let unit = field::get4(l, 12);
+    let known = l[16] != 0;
+    let key = field::get4(l, 20);
+    if !reading::is_check(l, number, unit, known, key) {
+        return lost();
+    }
+    Walk {
+        ok: true,
+        at: long,
+        number,
+        unit,
+        known,
+        lk: writing::number_if(known, key),
+        opened: false,
+        begin: 0,
+        done: 0,
+        last: 0,
+        rows: 0,
+        first: 0,
+        key: 0,
+        moved: 0,
+    }
+}
+
+// Notes the record that ends at `at` where nothing was found yet.
+fn noted(e: Mark, at: usize, number: u32, forced: u32) -> Mark
+    ensures { λ r. ⌜ r ≡ noted e at number forced ⌝ }
+{
+    if e.ends {
+        return e;
+    }
+    if at == forced as usize {
+        return Mark { ends: true, number };
+    }
+    Mark {
+        ends: false,
+        number: 0,
+    }
+}
+
+// Whether another record comes: the log's form is not broken and the byte there is not zero.
+fn live(l: &[u8], w: Walk) -> bool
+    ensures { λ r. ⌜ r ≡ live (now (l .entry)) w ⌝ }
+{
+    let at = w.at;
+    if !w.ok {
+        return false;
+    }
+    if l.len() <= at {
+        return false;
+    }
+    l[at] != 0
+}
+
+// The answer at the log's end: all bytes after are zero.
+fn finish(l: &[u8], w: Walk, e: Mark) -> Scan
+    requires { ⌜ w .at ≤ length (now l) ⌝ }
+    ensures { λ r. ⌜ r ≡ finished (now (l .entry)) w e ⌝ }
+{
+    let at = w.at;
+    if !w.ok {
+        return Scan {
+            walk: lost(),
+            ends: false,
+            forced: 0,
+        };
+    }
+    if !field::zeros(&l[at..]) {
+        return Scan {
+            walk: lost(),
+            ends: false,
+            forced: 0,
+        };
+    }
+    Scan {
+        walk: w,
+        ends: e.ends,
+        forced: e.number,
+    }
+}
+
+// The whole pass: all that a call needs to know of the log, of which `forced` bytes are forced.
+pub fn scan_log(l: &[u8], forced: u32) -> Scan
+    ensures { λ r. ⌜ r ≡ scanned forced (now (l .entry)) ⌝ }
+{
+    let mut w = top(l);
+    let mut e = Mark {
+        ends: false,
+        number: 0,
+    };
+    while live(l, w) {
+        e = noted(e, w.at, w.number, forced);
+        w = turn(l, w);
+    }
+    e = noted(e, w.at, w.number, forced);
+    finish(l, w, e)
+}

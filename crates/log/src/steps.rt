@@ -1,0 +1,185 @@
+// The steps of a unit, read off its begin record. Each function is lent the log's bytes from the begin record on.
+ghost use mathlib.Core.Path.{_≡_};
+ghost use mathlib.Core.Bool.{true};
+ghost use mathlib.Core.List.{[], _∷_, _++_};
+ghost use Prim.Native.Nat.{_+_, _-_, _*_, _%_, _≤_, _<_};
+ghost use lib.ListN.{length, drop, getD};
+ghost use lib.Dec.{eqb};
+ghost use Rattle.field.specs.Test.{pick};
+ghost use Rattle.field.specs.Bytes.{le2};
+ghost use Rattle.log.specs.Plan.{takeOut, bringIn, close, compactPlan, swapPlan, movePlan, plan};
+ghost use Rattle.log.specs.Log.{beginOk, readFields, readBegin};
+ghost use Rattle.log.specs.Steps.{stepOf};
+use crate::opening;
+
+// A step: LO, LI (its LO stands `back` records before), LM (`other`: not the entry that the LM before changed), LE.
+pub enum Planned {
+    Out {
+        org: u16,
+        dest: u16,
+    },
+    In {
+        org: u16,
+        dest: u16,
+        back: u32,
+    },
+    Point {
+        base: u16,
+        old: u16,
+        new: u16,
+        other: bool,
+    },
+    Close {
+        unit: u32,
+    },
+}
+
+// The step i of a move.
+fn move_step(base: u16, org: u16, dest: u16, unit: u32, i: usize) -> Planned
+    ensures { λ r. ⌜ stepOf r ≡ getD (movePlan base org dest ++ (close unit ∷ [])) i (close unit) ⌝ }
+{
+    if i == 0 {
+        return Planned::Out { org, dest };
+    }
+    if i == 1 {
+        return Planned::In { org, dest, back: 1 };
+    }
+    if i == 2 {
+        return Planned::Point {
+            base,
+            old: org,
+            new: dest,
+            other: false,
+        };
+    }
+    Planned::Close { unit }
+}
+
+// The step i of a swap of the leaves a and b, whose base pages are p and q.
+fn swap_step(p: u16, q: u16, a: u16, b: u16, unit: u32, i: usize) -> Planned
+    ensures { λ r. ⌜ stepOf r ≡ getD (swapPlan p q a b ++ (close unit ∷ [])) i (close unit) ⌝ }
+{
+    if i == 0 {
+        return Planned::Out { org: a, dest: b };
+    }
+    if i == 1 {
+        return Planned::Out { org: b, dest: a };
+    }
+    if i == 2 {
+        return Planned::In {
+            org: b,
+            dest: a,
+            back: 1,
+        };
+    }
+    if i == 3 {
+        return Planned::In {
+            org: a,
+            dest: b,
+            back: 3,
+        };
+    }
+    if i == 4 {
+        return Planned::Point {
+            base: q,
+            old: b,
+            new: a,
+            other: false,
+        };
+    }
+    if i == 5 {
+        return Planned::Point {
+            base: p,
+            old: a,
+            new: b,
+            other: p == q,
+        };
+    }
+    Planned::Close { unit }
+}
+
+// The first of two steps for a page that is gathered, or the second.
+fn gather_step(p: u16, dest: u16, i: usize) -> Planned
+    ensures { λ r. ⌜ stepOf r ≡ pick (eqb (i % 2) 0) (takeOut p dest) (bringIn p dest 1) ⌝ }
+{
+    if i % 2 == 0 {
+        return Planned::Out { org: p, dest };
+    }
+    Planned::In {
+        org: p,
+        dest,
+        back: 1,
+    }
+}
+
+// How many listed leaves are not gathered: the first, where it is the destination.
+fn skipped(first: u16, dest: u16) -> usize
+    ensures { λ r. ⌜ (r ≡ pick (eqb first dest) 1 0) × (r ≤ 1) ⌝ }
+{
+    if first == dest {
+        return 1;
+    }
+    0
+}
+
+// The step i of a compact.
+fn compact_step(m: &[u8], unit: u32, i: usize) -> Planned
+    requires { ⌜ (44 ≤ length (now m)) × (beginOk (readBegin unit (now m)) ≡ true) × (getD (now m) 16 0 ≡ 1) ⌝ }
+    ensures { λ r. ⌜ stepOf r ≡ getD (compactPlan (le2 (now (m .entry)) 20) (le2 (now (m .entry)) 40) (readFields (getD (now (m .entry)) 19 0) (drop 24 (now (m .entry)))) ++ (close unit ∷ [])) i (close unit) ⌝ }
+{
+    let base = field::get2(m, 20);
+    let first = field::get2(m, 24);
+    let dest = field::get2(m, 40);
+    let leaves = opening::byte_at(m, 19);
+    let skip = skipped(first, dest);
+    let pairs = 2 * (leaves - skip);
+    if i < pairs {
+        return gather_step(field::get2(m, 24 + 2 * (i / 2 + skip)), dest, i);
+    }
+    let j = i - pairs + skip;
+    if j == 0 {
+        return Planned::Point {
+            base,
+            old: first,
+            new: dest,
+            other: false,
+        };
+    }
+    if j < leaves {
+        return Planned::Point {
+            base,
+            old: field::get2(m, 24 + 2 * j),
+            new: 0,
+            other: false,
+        };
+    }
+    Planned::Close { unit }
+}
+
+// The base page of a swap's second leaf.
+fn second_base(m: &[u8]) -> u16
+    requires { ⌜ (44 ≤ length (now m)) × (1 ≤ getD (now m) 18 0) ⌝ }
+    ensures { λ r. ⌜ r ≡ getD (readFields (getD (now (m .entry)) 18 0) (drop 20 (now (m .entry)))) 1 (le2 (now (m .entry)) 20) ⌝ }
+{
+    if opening::byte_at(m, 18) < 2 {
+        return field::get2(m, 20);
+    }
+    field::get2(m, 22)
+}
+
+// The step i of the unit whose begin record stands at the front of m; past its end, the end.
+pub fn step_at(m: &[u8], unit: u32, i: usize) -> Planned
+    requires { ⌜ (44 ≤ length (now m)) × (beginOk (readBegin unit (now m)) ≡ true) ⌝ }
+    ensures { λ r. ⌜ stepOf r ≡ getD (plan (readBegin unit (now (m .entry)))) i (close unit) ⌝ }
+{
+    let kind = opening::byte_at(m, 16);
+    if kind == 1 {
+        return compact_step(m, unit, i);
+    }
+    let base = field::get2(m, 20);
+    let org = field::get2(m, 24);
+    if kind == 2 {
+        return swap_step(base, second_base(m), org, field::get2(m, 26), unit, i);
+    }
+    move_step(base, org, field::get2(m, 40), unit, i)
+}

@@ -1,31 +1,30 @@
 -- Keys between two numbers: a page's first and last key tell of all; a level of entries across pages is kept where each page is, with
 -- the next page's first key behind its last entry. Assumes nothing.
 use Prim.Native.Nat.{ℕ, zero, suc, _+_, _-_, _*_, _≤_, _<_}
-use native.Mathlib.Nat.{add-zero, zero-add, mul-suc, mul-le-mul-left, not-suc-le-zero}
-use native.Mathlib.Numerals.{add-one}
+use native.Mathlib.Nat.{mul-suc, mul-le-mul-left, not-suc-le-zero}
 use native.Mathlib.Omega.{arith}
-use mathlib.Core.Path.{_≡_, refl, sym, ap, ap₂, _∙_}
-use mathlib.Core.Bool.{Bool, true, false, not, false≢true}
+use mathlib.Core.Path.{_≡_, refl, sym, ap₂, _∙_}
+use mathlib.Core.Bool.{Bool, true, false, not}
 use mathlib.Core.List.{List, [], _∷_, _++_}
 use lib.ListN.{length, take, drop, getD, List·getD-eq-default}
-use lib.Dec.{eqb, leb, ltb}
+use lib.Dec.{eqb, ltb}
 use borrow.Author.Tests.{eq-eqb, ne-eqb, eqb-true, le-leb, lt-leb, lt-ltb, le-ltb, not-true, not-false}
-use Rattle.field.specs.Test.{both, pick}
-use Rattle.field.specs.Bytes.{part, Bytes, le2, le4}
+use Rattle.field.specs.Test.{both}
+use Rattle.field.specs.Bytes.{Bytes, le2, le4}
 use Rattle.field.proofs.Test.{both-1, both-2, both-true, both-false, both-assoc, both-intro}
 use Rattle.field.proofs.Part.{split}
 use Rattle.field.proofs.Number.{le4-small}
 use Rattle.field.proofs.Byte.{bytes-nil}
-use Rattle.page.specs.Page.{rowsOf, keyOf, toPage, ascend, count, rows, entries}
+use Rattle.page.specs.Page.{rowsOf, keyOf, toPage, count, rows, entries}
 use Rattle.page.specs.Pages.{page, pages}
-use Rattle.page.proofs.Rows.{Each, nil, cons, key-row, page-row, each-at, length-rows}
+use Rattle.page.proofs.Rows.{Each, nil, cons, key-row, each-at, length-rows}
 use Rattle.page.proofs.Kept.{bytes-rows}
 use Rattle.page.proofs.Turns.{rows-next}
-use Rattle.page.proofs.Order.{key-least, key-less}
+use Rattle.page.proofs.Order.{key-less}
 use Rattle.page.proofs.Pages.{lent-page}
 use Rattle.tree.specs.Tree.{under, below, lower, keysBetween, keysKept, headed}
-use Rattle.tree.specs.Walk.{Ascending, Spot, Below, bound, keysWithin, keptTo, levelTo}
-use Rattle.tree.proofs.Turn.{none-left, each-head, each-tail, under-page, first-page}
+use Rattle.tree.specs.Walk.{Ascending, Spot, bound, keysWithin, keptTo, levelTo}
+use Rattle.tree.proofs.Turn.{none-left, under-page, first-page}
 
 -- a test that fails at its end
 both-never : (a b : Bool) → both a (both b false) ≡ false

@@ -1,25 +1,25 @@
 -- The clauses of the well-formed tree put together, in their order; the root is lent as the front of all pages. The laws that end in `!`
 -- are for `search`. Assumes nothing.
-use Prim.Native.Nat.{ℕ, zero, suc, _+_, _-_, _*_, _≤_, _<_}
+use Prim.Native.Nat.{ℕ, _+_, _-_, _*_, _≤_, _<_}
 use native.Mathlib.Nat.{not-suc-le-zero}
 use native.Mathlib.Omega.{arith}
-use mathlib.Core.Path.{_≡_, refl, sym, ap, ap₂, _∙_}
+use mathlib.Core.Path.{_≡_, refl, sym, ap, _∙_}
 use mathlib.Core.Bool.{Bool, true, false, not}
 use mathlib.Core.List.{List, [], _∷_, _++_}
 use lib.ListN.{length, take, drop, getD, length-drop}
 use lib.Dec.{eqb}
-use borrow.Author.Tests.{eq-eqb, not-true, not-false}
-use Rattle.field.specs.Test.{both, all}
+use borrow.Author.Tests.{not-true, not-false}
+use Rattle.field.specs.Test.{all}
 use Rattle.field.specs.Bytes.{part, zeroes, Bytes, le4}
 use Rattle.field.proofs.Test.{all-true, all-false, both-end}
 use Rattle.field.proofs.Part.{split}
 use Rattle.field.proofs.Zero.{getD-zeroes}
 use Rattle.page.specs.Page.{rowsOf, keyOf, toPage, pointing, count, rows}
 use Rattle.page.specs.Pages.{page, pages}
-use Rattle.page.proofs.Rows.{Each, length-rows, length-rowsOf, bytes-rowsOf}
-use Rattle.page.proofs.Pages.{getD-pages, length-pages, length-page}
+use Rattle.page.proofs.Rows.{Each, length-rows, bytes-rowsOf}
+use Rattle.page.proofs.Pages.{getD-pages, length-pages}
 use Rattle.tree.specs.Tree.{under, rootEntries, below, baseEntries, pointers, pointedOnce, startsAtZero, headed, keysKept, wellFormed}
-use Rattle.tree.specs.Walk.{InForm, Spot, Below, Over, Above, Tallied, Roomy, keptTo, levelTo, rightly}
+use Rattle.tree.specs.Walk.{InForm, Below, Above, Tallied, Roomy, keptTo, levelTo, rightly}
 use Rattle.tree.proofs.Regions.{root-points}
 use Rattle.tree.proofs.Turn.{first-page, pointing-wider}
 use Rattle.tree.proofs.Tally.{pointers-append, pointers-few, right-pointed}

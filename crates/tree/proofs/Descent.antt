@@ -1,17 +1,15 @@
 -- Find's way down: one turn of its two loops, its tests of a page, and its three pages. The laws that end in `!` are for `search`.
 -- Assumes nothing.
-use Prim.Native.Nat.{ℕ, zero, suc, _+_, _-_, _*_, _≤_, _<_}
-use native.Mathlib.Nat.{not-suc-le-zero}
-use native.Mathlib.Numerals.{sub-one}
+use Prim.Native.Nat.{ℕ, _+_, _-_, _*_, _≤_, _<_}
 use native.Mathlib.Omega.{arith}
 use mathlib.Core.Path.{_≡_, refl, sym, ap, _∙_}
-use mathlib.Core.Bool.{Bool, true, false, not, false≢true}
+use mathlib.Core.Bool.{Bool, true, false, not}
 use mathlib.Core.List.{List, [], _∷_, _++_, append-nil}
 use mathlib.Core.Option.{Option, some, none}
-use lib.ListN.{length, take, drop, getD}
-use lib.Dec.{eqb, leb}
+use lib.ListN.{length, take, drop}
+use lib.Dec.{leb}
 use borrow.Author.Tests.{eq-eqb, ne-eqb, le-leb, lt-leb, leb-true, not-true, not-false}
-use Rattle.field.specs.Test.{both, pick, need, given}
+use Rattle.field.specs.Test.{both, pick, given}
 use Rattle.field.specs.Bytes.{part, put, zeroes, le2, le4}
 use Rattle.field.proofs.Test.{both-1, both-2, both-true, both-false, pick-either, need-true, need-false}
 use Rattle.field.proofs.Part.{part-drop, part-part, length-part, lent-part, put-front}
@@ -24,12 +22,8 @@ use Rattle.tree.specs.Answer as answer
 use Rattle.tree.specs.Way.{lastTo, passable, wayOn, wayDown, recordIn, leafIn, replyOf, bytesOf}
 use Rattle.tree.specs.declared.find.Way.{Way}
 use Rattle.tree.specs.declared.find.Way.the-variants.{Refused, To}
+use Rattle.tree.proofs.Turn.{none-left}
 use Rattle.tree.proofs.Regions.{decide, entries-ordered, records-ordered, root-points, base-points, letter-empty, letter-full}
-
-no-rows : (sz n : ℕ) (l : List ℕ) → n ≤ 0 → rowsOf sz n l ≡ []
-unfolding rowsOf
-no-rows sz zero l h = refl
-no-rows sz (suc n) l h = absurd (not-suc-le-zero h)
 
 -- n rows, the last of them apart
 pub rows-last : (sz n at : ℕ) (l : List ℕ) → 0 < n → rowsOf sz n (drop at l) ≡ rowsOf sz (n - 1) (drop at l) ++ (part (at + sz * (n - 1)) sz l ∷ [])
@@ -49,7 +43,7 @@ last-snoc key best (x ∷ xs) e = last-snoc key (pick (leb (keyOf x) key) (some 
 
 module _ (key n left : ℕ) (l : List ℕ) (e : lastTo key (rowsOf 8 n (drop 16 l)) ≡ lastTo key (rowsOf 8 left (drop 16 l))) where
   pub last-end! : left ≤ 0 → Refused 15 ≡ lastTo key (rowsOf 8 n (drop 16 l))
-  last-end! h = sym (e ∙ rw (no-rows 8 left (drop 16 l) h) (unfold lastTo lastNotAbove given in refl))
+  last-end! h = sym (e ∙ rw (none-left 8 left (drop 16 l) h) (unfold lastTo lastNotAbove given in refl))
 
   module _ (k : ℕ) (q : k ≡ le4 l (16 + 8 * (left - 1) + 2)) (more : 0 < left) where
     turn : lastTo key (rowsOf 8 n (drop 16 l))
@@ -70,7 +64,7 @@ module _ (key n left : ℕ) (l : List ℕ) (e : lastTo key (rowsOf 8 n (drop 16 
 
 module _ (key n left at : ℕ) (l : List ℕ) (e : recordIn key (rowsOf 16 n (drop 16 l)) ≡ recordIn key (rowsOf 16 left (drop at l))) where
   record-end : left ≤ 0 → recordIn key (rowsOf 16 n (drop 16 l)) ≡ missing 15
-  record-end h = e ∙ rw (no-rows 16 left (drop at l) h) (unfold recordIn recordWith given in refl)
+  record-end h = e ∙ rw (none-left 16 left (drop at l) h) (unfold recordIn recordWith given in refl)
 
   pub none-reply! : (r : ℕ) → left ≤ 0 → r ≡ 15 → r ≡ replyOf (recordIn key (rowsOf 16 n (drop 16 l)))
   unfolding replyOf

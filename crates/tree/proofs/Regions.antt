@@ -1,14 +1,14 @@
 -- A page in form in its place: which kind it is, what its rows are like, and that its letter says whether it is empty. Assumes nothing.
-use Prim.Native.Nat.{ℕ, zero, suc, _+_, _*_, _≤_, _<_}
+use Prim.Native.Nat.{ℕ, _≤_, _<_}
 use native.Mathlib.Omega.{arith}
-use mathlib.Core.Path.{_≡_, refl, sym, ap, _∙_}
-use mathlib.Core.Bool.{Bool, true, false, false≢true}
-use mathlib.Core.List.{List, [], _∷_}
-use lib.ListN.{length, drop}
-use lib.Dec.{eqb, leb}
+use mathlib.Core.Path.{_≡_, refl}
+use mathlib.Core.Bool.{Bool, true, false}
+use mathlib.Core.List.{List, []}
+use lib.ListN.{length}
+use lib.Dec.{leb}
 use borrow.Author.Tests.{eq-eqb, ne-eqb, le-leb, lt-leb}
-use Rattle.field.specs.Test.{both, pick}
-use Rattle.field.proofs.Test.{both-1, both-2, both-intro}
+use Rattle.field.specs.Test.{pick}
+use Rattle.field.proofs.Test.{both-1, both-2}
 use Rattle.field.proofs.Part.{split}
 use Rattle.page.specs.Page.{Kind, root, base, leaf, empty, rowsOf, ascend, pointing, letter, count, rows, entries, shaped, isRoot, isBase, isLeaf, isEmpty, formed}
 use Rattle.page.proofs.Made.{Shaped, shaped-facts}

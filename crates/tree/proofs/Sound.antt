@@ -1,25 +1,21 @@
 -- 64 pages in form: the root's entries, the pages below them and their entries; and where each page is pointed to rightly, each page
 -- below an entry has rows. Assumes nothing.
-use Prim.Native.Nat.{ℕ, zero, suc, _+_, _-_, _*_, _≤_, _<_}
-use native.Mathlib.Nat.{not-suc-le-zero, le-trans}
+use Prim.Native.Nat.{ℕ, suc, _+_, _-_, _*_, _≤_, _<_}
 use native.Mathlib.Omega.{arith}
-use mathlib.Core.Path.{_≡_, refl, sym, ap, _∙_}
-use mathlib.Core.Bool.{Bool, true, false, false≢true}
+use mathlib.Core.Path.{_≡_, sym, _∙_}
+use mathlib.Core.Bool.{true, false, false≢true}
 use mathlib.Core.List.{List, [], _∷_, _++_}
 use lib.ListN.{length, take, drop, getD}
-use lib.Dec.{eqb, leb}
 use borrow.Author.Tests.{leb-true}
-use Rattle.field.specs.Test.{both}
-use Rattle.field.specs.Bytes.{part, Bytes}
 use Rattle.field.proofs.Test.{both-1, both-2}
-use Rattle.page.specs.Page.{root, base, leaf, rowsOf, toPage, pointing, count, rows, entries, isRoot, isBase, isLeaf, isEmpty, formed}
-use Rattle.page.specs.Pages.{page, pages, allFormed}
-use Rattle.page.proofs.Rows.{Each, nil, cons, each-append, each-at, bytes-rowsOf}
+use Rattle.page.specs.Page.{root, base, leaf, rowsOf, toPage, pointing, count, rows, entries, isBase, isLeaf, isEmpty, formed}
+use Rattle.page.specs.Pages.{page, pages}
+use Rattle.page.proofs.Rows.{Each, nil, cons, each-append, each-at}
 use Rattle.page.proofs.Made.{shaped-facts}
 use Rattle.page.proofs.Pages.{formed-page, getD-pages, lent-page, length-page}
 use Rattle.tree.specs.Tree.{under, rootEntries, below, baseEntries, pointedOnce}
-use Rattle.tree.specs.Walk.{InForm, Ascending, Spot, Below, Over, Above, Roomy}
-use Rattle.tree.proofs.Regions.{Formed, as-root, as-empty, as-base, as-leaf, formed-kind, Ordered, entries-ordered, records-ordered, root-points, base-points}
+use Rattle.tree.specs.Walk.{InForm, Spot, Below, Over, Above}
+use Rattle.tree.proofs.Regions.{as-root, as-empty, as-base, as-leaf, formed-kind, Ordered, entries-ordered, records-ordered, root-points, base-points}
 use Rattle.tree.proofs.Turn.{pointing-wider}
 use Rattle.tree.proofs.Tally.{once-full}
 
@@ -103,6 +99,7 @@ module _ (w : List ℕ) (f : InForm w) where
       let g : formed q (page q w) ≡ true = formed-page q w (f .forms) (omega arith) in
       let o : Ordered 8 101 110 30 (page q w) = entries-ordered q (page q w) g hi in
       record {
+        past = omega arith;
         inside = omega arith;
         fits = omega (arith, o .room);
         full = full-count q (page q w) g lo t;
@@ -114,6 +111,7 @@ module _ (w : List ℕ) (f : InForm w) where
       let g : formed q (page q w) ≡ true = formed-page q w (f .forms) (omega arith) in
       let o : Ordered 16 114 99 15 (page q w) = records-ordered q (page q w) g lo in
       record {
+        past = omega arith;
         inside = omega arith;
         fits = omega (arith, o .room);
         full = full-count q (page q w) g (omega arith) t;

@@ -1,26 +1,24 @@
 -- Counting how often each page is pointed to, and that the counts being right is the clause of the well-formed tree. Assumes nothing.
 use Prim.Native.Nat.{ℕ, zero, suc, _+_, _-_, _*_, _≤_, _<_}
 use native.Mathlib.Nat.{add-zero, zero-add, not-suc-le-zero}
-use native.Mathlib.Numerals.{add-one}
 use native.Mathlib.Omega.{arith}
-use native.Mathlib.Decide.{decLe}
-use mathlib.Core.Path.{_≡_, refl, sym, ap, ap₂, _∙_}
+use mathlib.Core.Path.{_≡_, refl, sym, _∙_}
 use mathlib.Core.Bool.{Bool, true, false, not, false≢true}
 use mathlib.Core.List.{List, [], _∷_, _++_}
 use lib.ListN.{length, take, drop, getD, set, length-drop, drop-of-length-le}
 use lib.Seq.{getD-set-same, getD-set-other, getD-drop}
-use lib.Dec.{eqb, leb}
+use lib.Dec.{eqb}
 use borrow.Author.Tests.{eq-eqb, ne-eqb, eqb-true, not-true, not-false}
 use Rattle.field.specs.Test.{both, pick}
-use Rattle.field.specs.Bytes.{part, le2}
+use Rattle.field.specs.Bytes.{le2}
 use Rattle.field.proofs.Test.{both-1, both-2, both-true, both-false, pick-true}
 use Rattle.field.proofs.Part.{split}
-use Rattle.page.specs.Page.{rowsOf, toPage, pointing, count, letter, rows, entries, isEmpty, formed}
-use Rattle.page.specs.Pages.{page, pages, allFormed}
-use Rattle.page.proofs.Rows.{Each, nil, cons, page-row, length-rows}
+use Rattle.page.specs.Page.{rowsOf, toPage, count, letter, rows, entries, isEmpty, formed}
+use Rattle.page.specs.Pages.{page, pages}
+use Rattle.page.proofs.Rows.{page-row, length-rows}
 use Rattle.page.proofs.Turns.{rows-next}
 use Rattle.page.proofs.Pages.{formed-page, getD-pages, length-pages, lent-page}
-use Rattle.tree.specs.Tree.{under, below, pointers, pointedOnce, rootEntries, baseEntries}
+use Rattle.tree.specs.Tree.{below, pointers, pointedOnce}
 use Rattle.tree.specs.Walk.{InForm, Tallied, Roomy, rightly}
 use Rattle.tree.proofs.Regions.{decide, letter-empty, letter-full}
 use Rattle.tree.proofs.Turn.{none-left, below-next, letter-page, pages-next}

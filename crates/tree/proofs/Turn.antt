@@ -1,28 +1,28 @@
 -- One turn over entries that stand in a page: the entry in front with the page below it, and those behind. All 64 pages, one by one.
 -- Assumes nothing.
 use Prim.Native.Nat.{ℕ, zero, suc, _+_, _-_, _*_, _≤_, _<_}
-use native.Mathlib.Nat.{le-trans, mul-suc, mul-le-mul-left, not-suc-le-zero}
+use native.Mathlib.Nat.{le-trans, not-suc-le-zero}
 use native.Mathlib.Numerals.{add-one}
 use native.Mathlib.Omega.{arith}
-use mathlib.Core.Path.{_≡_, refl, sym, ap, _∙_}
-use mathlib.Core.Bool.{Bool, true, false, not}
+use mathlib.Core.Path.{_≡_, refl, sym, _∙_}
+use mathlib.Core.Bool.{true}
 use mathlib.Core.List.{List, [], _∷_, _++_}
-use lib.ListN.{length, take, drop, getD, drop-of-length-le}
+use lib.ListN.{drop, getD}
 use lib.Seq.{drop-cons}
-use lib.Dec.{eqb, leb}
-use borrow.Author.Tests.{leb-true, le-leb, not-true, not-false}
+use lib.Dec.{leb}
+use borrow.Author.Tests.{leb-true, le-leb}
 use Rattle.field.specs.Test.{both}
 use Rattle.field.specs.Bytes.{part, le2, le4}
-use Rattle.field.proofs.Test.{both-1, both-2, both-true, both-false, both-intro}
+use Rattle.field.proofs.Test.{both-1, both-2, both-intro}
 use Rattle.field.proofs.Number.{le2-part, le4-part}
 use Rattle.field.proofs.Part.{getD-part}
-use Rattle.page.specs.Page.{rowsOf, keyOf, toPage, pointing, count, letter, rows, formed}
-use Rattle.page.specs.Pages.{page, pages, allFormed}
-use Rattle.page.proofs.Rows.{Each, nil, cons, key-row, page-row, key-at}
+use Rattle.page.specs.Page.{rowsOf, keyOf, toPage, pointing, count, letter, rows}
+use Rattle.page.specs.Pages.{page, pages}
+use Rattle.page.proofs.Rows.{Each, cons, page-row, key-at}
 use Rattle.page.proofs.Turns.{rows-next, pointing-next}
-use Rattle.page.proofs.Pages.{lent-page, getD-pages, length-pages, formed-page, length-page}
+use Rattle.page.proofs.Pages.{getD-pages, length-pages}
 use Rattle.tree.specs.Tree.{under, below}
-use Rattle.tree.specs.Walk.{InForm, Spot, Below, Over, Above}
+use Rattle.tree.specs.Walk.{Spot, Below, Over, Above}
 
 pub none-left : (sz n : ℕ) (l : List ℕ) → n ≤ 0 → rowsOf sz n l ≡ []
 unfolding rowsOf
@@ -102,24 +102,7 @@ first-page sz p w s h =
     let z : 16 + sz * 0 + 2 ≡ 18 = omega arith in
     sym (le4-part (256 * p) 256 w 18 (omega arith)) ∙ (rw z at (key-at sz 0 (page p w) s h))
 
--- ---- all pages in form, one after the other
+-- ---- all pages, one after the other
 
-module _ (p : ℕ) (w : List ℕ) (h : p < 64) where
-  pub pages-next : drop p (pages w) ≡ page p w ∷ drop (p + 1) (pages w)
-  pages-next = rw (add-one p) (drop-cons (pages w) p [] (omega (arith, length-pages w)) ∙ rw (getD-pages p w h))
-
-  module _ (e : allFormed 0 (pages w) ≡ allFormed p (drop p (pages w))) (z : Bool) (f : z ≡ formed p (take (256 * p + 256 - 256 * p) (drop (256 * p) w))) where
-    next : allFormed 0 (pages w) ≡ both z (allFormed (p + 1) (drop (p + 1) (pages w)))
-    unfolding allFormed
-    next = e ∙ rw (pages-next, f, lent-page p w)
-
-    pub form-stop! : not z ≡ true → false ≡ allFormed 0 (pages w)
-    form-stop! g = sym (next ∙ both-false _ _ (not-true z g))
-
-    pub form-more! : not z ≡ false → allFormed 0 (pages w) ≡ allFormed (p + 1) (drop (p + 1) (pages w))
-    form-more! g = next ∙ both-true _ _ (not-false z g)
-
-pub form-end! : (p : ℕ) (w : List ℕ) → allFormed 0 (pages w) ≡ allFormed p (drop p (pages w)) → 64 ≤ p → true ≡ allFormed 0 (pages w)
-form-end! p w e h =
-    let k : length (pages w) ≤ p = omega (arith, length-pages w) in
-    sym (e ∙ rw (drop-of-length-le (pages w) k) (unfold allFormed in refl))
+pub pages-next : (p : ℕ) (w : List ℕ) → p < 64 → drop p (pages w) ≡ page p w ∷ drop (p + 1) (pages w)
+pages-next p w h = rw (add-one p) (drop-cons (pages w) p [] (omega (arith, length-pages w)) ∙ rw (getD-pages p w h))

@@ -3,4 +3,6 @@ pub mod Tree
 pub mod Answer
 pub mod Way
 pub mod Walk
+pub mod Reader
 pub mod Layout
+pub mod Pieces

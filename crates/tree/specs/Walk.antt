@@ -25,6 +25,7 @@ pub record Ascending (rs : List (List ℕ)) : Type 0 where
 
 -- page q has rows of sz bytes, in order, and at least one
 pub record Spot (sz : ℕ) (w : List ℕ) (q : ℕ) : Type 0 where
+  pub past : 0 < q
   pub inside : q < 64
   pub fits : 16 + sz * count (page q w) ≤ 256
   pub full : 0 < count (page q w)

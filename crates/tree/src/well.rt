@@ -9,30 +9,13 @@ ghost use lib.Dec.{eqb};
 ghost use Rattle.field.specs.Test.{pick};
 ghost use Rattle.page.specs.Page.{rowsOf, pointing, count, rows};
 ghost use Rattle.page.proofs.Rows.{Each};
-ghost use Rattle.page.specs.Pages.{page, pages, allFormed};
+ghost use Rattle.page.specs.Pages.{page, pages};
 ghost use Rattle.tree.specs.Tree.{below, pointedOnce, rootEntries, baseEntries, startsAtZero, headed, wellFormed};
 ghost use Rattle.tree.specs.Walk.{InForm, Ascending, Below, Above, Tallied, Roomy, bound, keysWithin, keptTo, levelTo, rightly};
-use page::form;
 use page::view;
 
 // Above every key.
 const TOP: u64 = 4294967296;
-
-// Whether all 64 pages are in form.
-pub fn all_formed(w: &[u8]) -> bool
-    requires { ⌜ length (now w) ≡ 16384 ⌝ }
-    ensures { λ r. ⌜ r ≡ allFormed 0 (pages (now (w .entry))) ⌝ }
-{
-    let mut p: usize = 0;
-    while p < 64 {
-        let at = 256 * p;
-        if !form::formed(p, &w[at..at + 256]) {
-            return false;
-        }
-        p += 1;
-    }
-    true
-}
 
 // Adds to counts how often n entries of the page pg point to each page.
 fn tally(pg: &[u8], n: u16, counts: [u16; 64]) -> [u16; 64]

@@ -1,0 +1,60 @@
+-- `tree::list::list_one` meets its contract. Assumes nothing.
+use mathlib.Core.Path.{_∙_}
+use Rattle.tree.proofs.Listing.{one-low, one-high, one-full, one-written}
+use borrow.Author.Needs.{needs}
+use Rattle.tree.proofs.list.list_one.Statement.{statement}
+use Rattle.tree.proofs.list.list_one.Tie as tie
+
+get4-requires : tie.Need-get4-requires
+get4-requires c κs = search needs
+
+returns : tie.Need-returns
+returns c =
+    let a = c .before .before .before .before in
+    let g = c .before .get4 in
+    one-low (a .args .rc .now) (a .args .low) (a .args .high) (a .args .out .now) (a .args .n) (g .result) (g .ensures) (c .if1 .taken)
+
+returns-2 : tie.Need-returns-2
+returns-2 c =
+    let a = c .before .before .before .before .before in
+    let g = c .before .before .get4 in
+    one-high (a .args .rc .now) (a .args .low) (a .args .high) (a .args .out .now) (a .args .n) (g .result) (g .ensures) (c .before .if1 .left) (c .if2 .taken)
+
+returns-3 : tie.Need-returns-3
+returns-3 c =
+    let a = c .before .before .before .before .before .before in
+    let g = c .before .before .before .get4 in
+    one-full (a .args .rc .now) (a .args .low) (a .args .high) (a .args .out .now) (a .args .n) (g .result) (g .ensures) (c .before .before .if1 .left) (c .before .if2 .left) (a .pre .1) (c .if3 .taken)
+
+mul-copy : tie.Need-mul-copy
+mul-copy c = search needs
+
+copy-requires : tie.Need-copy-requires
+copy-requires c κs = search needs
+
+add-t9 : tie.Need-add-t9
+add-t9 c = search needs
+
+same-length : tie.Need-same-length
+same-length c = search needs
+
+returns-4 : tie.Need-returns-4
+returns-4 c =
+    let a = c .before .before .before .before .before .before .before .before .before .before in
+    let g = c .before .before .before .before .before .before .before .get4 in
+    let o = one-written (a .args .rc .now) (a .args .low) (a .args .high) (a .args .out .now) (a .args .n) (g .result) (g .ensures) (c .before .before .before .before .before .before .if1 .left) (c .before .before .before .before .before .if2 .left) (c .before .before .before .before .if3 .left) in
+    (c .before .before .copy .ensures ∙ o .0, o .1, o .2)
+
+pub list-one-spec : {M : Type 1} → statement M
+list-one-spec =
+    tie.close
+    (tie.spec
+    get4-requires
+    returns
+    returns-2
+    returns-3
+    mul-copy
+    copy-requires
+    add-t9
+    same-length
+    returns-4)

@@ -1,0 +1,110 @@
+// List: the records whose keys are in bounds, in key order, as many as fit whole into the lent bytes.
+ghost use mathlib.Core.Path.{_≡_};
+ghost use mathlib.Core.List.{[], _∷_};
+ghost use Prim.Native.Nat.{_+_, _*_, _/_, _≤_, _<_};
+ghost use lib.ListN.{length, drop};
+ghost use Rattle.field.specs.Test.{pick};
+ghost use Rattle.page.specs.Page.{rowsOf};
+ghost use Rattle.tree.specs.Answer.{between, inBounds, roomFor, written, countWritten, moreRemain};
+ghost use Rattle.tree.specs.Reader.{Sound, writeAt, countAt, moreAt};
+use crate::walk;
+use crate::well;
+
+// How many records are written, and whether a further one did not fit.
+struct Run {
+    count: usize,
+    more: bool,
+}
+
+// What list returns beside its reply.
+pub struct Listed {
+    pub count: u32,
+    pub more: bool,
+}
+
+// Writes a record behind n others, if its key is in bounds and it fits.
+fn list_one(rc: &[u8], low: u32, high: u32, out: &mut [u8], n: usize) -> Run
+    requires { ⌜ (length (now rc) ≡ 16) × (n ≤ roomFor (now out)) ⌝ }
+    ensures { λ r. ⌜ (now (out .exit) ≡ writeAt n (between low high (now (rc .entry) ∷ [])) (now (out .entry))) × (r .count ≡ countAt n (between low high (now (rc .entry) ∷ [])) (now (out .entry))) × (r .more ≡ moreAt n (between low high (now (rc .entry) ∷ [])) (now (out .entry))) ⌝ }
+{
+    let key = field::get4(rc, 2);
+    if key < low {
+        return Run {
+            count: n,
+            more: false,
+        };
+    }
+    if high < key {
+        return Run {
+            count: n,
+            more: false,
+        };
+    }
+    if out.len() / 16 <= n {
+        return Run {
+            count: n,
+            more: true,
+        };
+    }
+    field::copy(out, 16 * n, rc);
+    Run {
+        count: n + 1,
+        more: false,
+    }
+}
+
+// Writes those of m records of the page pg whose keys are in bounds behind n others, while they fit.
+fn list_leaf(pg: &[u8], m: u16, low: u32, high: u32, out: &mut [u8], n: usize) -> Run
+    requires { ⌜ (16 + 16 * m ≤ length (now pg)) × (n ≤ roomFor (now out)) ⌝ }
+    ensures { λ r. ⌜ (now (out .exit) ≡ writeAt n (between low high (rowsOf 16 m (drop 16 (now (pg .entry))))) (now (out .entry))) × (r .count ≡ countAt n (between low high (rowsOf 16 m (drop 16 (now (pg .entry))))) (now (out .entry))) × (r .more ≡ moreAt n (between low high (rowsOf 16 m (drop 16 (now (pg .entry))))) (now (out .entry))) ⌝ }
+{
+    let mut k = n;
+    let mut at: usize = 16;
+    let mut left = m;
+    while 0 < left {
+        let run = list_one(&pg[at..at + 16], low, high, out, k);
+        if run.more {
+            return run;
+        }
+        k = run.count;
+        at += 16;
+        left -= 1;
+    }
+    Run {
+        count: k,
+        more: false,
+    }
+}
+
+// Writes the records with keys low to high, both included, into out.
+pub fn list_into(w: &[u8], low: u32, high: u32, out: &mut [u8]) -> Listed
+    requires { ⌜ Sound (now w) ⌝ }
+    ensures { λ r. ⌜ (now (out .exit) ≡ written (inBounds low high (now (w .entry))) (now (out .entry))) × (r .count ≡ countWritten (inBounds low high (now (w .entry))) (now (out .entry))) × (pick (r .more) 1 0 ≡ moreRemain (inBounds low high (now (w .entry))) (now (out .entry))) ⌝ }
+{
+    let mut k: usize = 0;
+    let mut at = walk::first(w);
+    while at.leaf != 0 {
+        let p = 256 * at.leaf;
+        let run = list_leaf(
+            &w[p..p + 256],
+            well::count_at(w, at.leaf),
+            low,
+            high,
+            out,
+            k,
+        );
+        k = run.count;
+        if run.more {
+            return Listed {
+                count: k as u32,
+                more: true,
+            };
+        }
+        let next = walk::next_leaf(w, at);
+        at = next;
+    }
+    Listed {
+        count: k as u32,
+        more: false,
+    }
+}

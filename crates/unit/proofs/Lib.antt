@@ -8,3 +8,6 @@ pub mod Ordered
 pub mod Groups
 pub mod Chooses
 pub mod Roots
+pub mod Rooms
+pub mod Entries
+pub mod Applied

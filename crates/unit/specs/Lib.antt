@@ -2,3 +2,5 @@
 pub mod Choice
 pub mod Next
 pub mod Chosen
+pub mod Room
+pub mod Made

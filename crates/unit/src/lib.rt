@@ -1,4 +1,7 @@
-// Units: which one is chosen, and what one record does to its page.
+// Units: which one is chosen, how much room its steps need, which entry an LM takes, and what one record does to its page.
+pub mod apply;
 pub mod choice;
 pub mod compact;
+pub mod entry;
 pub mod order;
+pub mod room;

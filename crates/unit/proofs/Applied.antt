@@ -1,5 +1,5 @@
 -- What the code makes of one record is what `apply` says. Assumes nothing.
-use Prim.Native.Nat.{ℕ, zero, suc, _+_, _-_, _*_, _≤_, _<_}
+use Prim.Native.Nat.{ℕ, suc, _+_, _-_, _*_, _≤_, _<_}
 use native.Mathlib.Nat.{add-sub-cancel-left}
 use native.Mathlib.Omega.{arith}
 use mathlib.Core.Path.{_≡_, refl, sym, ap, _∙_}
@@ -10,7 +10,7 @@ use lib.ListN.{length, take, drop, getD}
 use lib.Seq.{take-length}
 use lib.Dec.{eqb, leb}
 use borrow.Author.Tests.{leb-true, eq-eqb, ne-eqb, le-leb, lt-leb, not-true, not-false}
-use Rattle.field.specs.Test.{both, all, pick, given, when, bind, there}
+use Rattle.field.specs.Test.{both, all, pick, given, bind, there}
 use Rattle.field.specs.Bytes.{part, same, le4}
 use Rattle.field.proofs.Test.{both-1, both-true, both-false, both-end, all-head, all-tail, all-true, all-false, pick-true, pick-false, pick-either, when-true, when-false}
 use Rattle.field.proofs.Part.{split}
@@ -24,7 +24,7 @@ use Rattle.page.proofs.Order.{ascend-facts, found-has}
 use Rattle.page.proofs.Region.{base-whole, leaf-whole}
 use Rattle.page.proofs.Changes.{leaf-takes, pick-takes, base-room, redirected-at, removed-at}
 use Rattle.page.proofs.Pages.{lent-page}
-use Rattle.log.specs.Record.{Rec, LO, LI, LM}
+use Rattle.log.specs.Record.{LO, LI, LM}
 use Rattle.unit.specs.Next.{target, change, changedAt, apply}
 use Rattle.unit.specs.Made.{placeOf, Did}
 use Rattle.unit.proofs.Walk.{base-rows}

@@ -1,6 +1,6 @@
 -- The choice of a compact unit, base page by base page: a group stops at the last entry of its base page, since no two root entries
 -- point to one page. Assumes nothing.
-use Prim.Native.Nat.{ℕ, zero, suc, _+_, _-_, _*_, _≤_, _<_}
+use Prim.Native.Nat.{ℕ, zero, suc, _+_, _-_, _≤_, _<_}
 use native.Mathlib.Omega.{arith}
 use mathlib.Core.Path.{_≡_, refl, sym, ap, _∙_}
 use mathlib.Core.Bool.{Bool, true, false}
@@ -14,14 +14,14 @@ use Rattle.field.specs.Test.{both, pick, given, when}
 use Rattle.field.specs.Bytes.{part, zeroes, le2}
 use Rattle.field.proofs.Test.{pick-true, pick-false, pick-either}
 use Rattle.field.proofs.Part.{split}
-use Rattle.page.specs.Page.{rowsOf, keyOf, toPage, count, rows, entries, records}
+use Rattle.page.specs.Page.{rowsOf, keyOf, toPage, count, entries, records}
 use Rattle.page.specs.Pages.{page, pages}
 use Rattle.page.proofs.Rows.{Each, each-take, length-rows, length-rowsOf, page-row}
 use Rattle.page.proofs.Turns.{rows-next}
 use Rattle.log.specs.Record.{Begin}
-use Rattle.tree.specs.Tree.{Leaf, under, pointers, leafAt, leavesUnder, leavesBelow, leavesOf, rootEntries}
+use Rattle.tree.specs.Tree.{Leaf, under, pointers, leafAt, leavesUnder, leavesBelow}
 use Rattle.tree.proofs.Turn.{none-left, each-behind, under-page}
-use Rattle.unit.specs.Choice.{fillOf, exceeds, joining, group, lowestEmpty, compactOf, larger, chooseCompact, compactUnit}
+use Rattle.unit.specs.Choice.{exceeds, joining, group, lowestEmpty, compactOf, larger, chooseCompact}
 use Rattle.unit.specs.Chosen.{chosen, Picks, leafOf, toPages, joins, topOf}
 use Rattle.unit.specs.declared.choice.Choice.{Choice}
 use Rattle.unit.proofs.Groups.{length-toPages}

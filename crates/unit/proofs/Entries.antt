@@ -1,16 +1,16 @@
 -- The entry that an LM takes, found by a walk over the entries; the laws that end in `!` are for `search`. Assumes nothing.
-use Prim.Native.Nat.{ℕ, zero, suc, _+_, _-_, _*_, _≤_, _<_}
+use Prim.Native.Nat.{ℕ, suc, _+_, _-_, _≤_, _<_}
 use native.Mathlib.Nat.{add-zero, not-suc-le-zero}
 use native.Mathlib.Omega.{arith}
-use mathlib.Core.Path.{_≡_, refl, sym, ap, _∙_}
+use mathlib.Core.Path.{_≡_, refl, sym, _∙_}
 use mathlib.Core.Bool.{Bool, true, false, not}
 use mathlib.Core.List.{List, [], _∷_}
-use mathlib.Core.Option.{Option, some, none}
+use mathlib.Core.Option.{Option, some}
 use lib.ListN.{length, drop, getD}
 use lib.Dec.{eqb}
 use borrow.Author.Tests.{eq-eqb, ne-eqb, not-true, not-false}
 use Rattle.field.specs.Test.{both, pick, when}
-use Rattle.field.specs.Bytes.{part, le2, le4}
+use Rattle.field.specs.Bytes.{le2, le4}
 use Rattle.field.proofs.Test.{both-true, both-false, pick-true, pick-false}
 use Rattle.page.specs.Page.{rowsOf, keyOf, toPage}
 use Rattle.page.specs.Change.{isEntry, has}

@@ -2,24 +2,22 @@
 -- that end in `!` are for `search`. Assumes nothing.
 use Prim.Native.Nat.{ℕ, zero, suc, _+_, _-_, _*_, _≤_, _<_}
 use native.Mathlib.Nat.{add-zero}
-use native.Mathlib.Numerals.{add-one}
 use native.Mathlib.Omega.{arith}
-use mathlib.Core.Path.{_≡_, refl, sym, ap, ap₂, _∙_}
+use mathlib.Core.Path.{_≡_, refl, sym, ap, _∙_}
 use mathlib.Core.Bool.{Bool, true, false, not}
 use mathlib.Core.List.{List, [], _∷_, _++_, append-assoc}
-use lib.ListN.{length, take, drop, getD, set}
+use lib.ListN.{length, drop, getD, set}
 use lib.Seq.{set-at}
-use lib.Dec.{eqb, leb, ltb}
+use lib.Dec.{leb, ltb}
 use borrow.Author.Tests.{le-leb, lt-leb, lt-ltb, le-ltb, not-true, not-false}
 use Rattle.field.specs.Test.{both, all, pick, when}
 use Rattle.field.specs.Bytes.{part, zeroes, le2, le4}
 use Rattle.field.proofs.Test.{both-end, pick-true, pick-false}
 use Rattle.field.proofs.Number.{le2-drop}
-use Rattle.page.specs.Page.{rowsOf, keyOf, toPage, count, records, isEmpty}
+use Rattle.page.specs.Page.{rowsOf, keyOf, count, records, isEmpty}
 use Rattle.page.specs.Pages.{page, pages}
 use Rattle.page.proofs.Rows.{page-row, length-rowsOf, rowsOf-add}
 use Rattle.page.proofs.Turns.{rows-next}
-use Rattle.tree.specs.Tree.{under}
 use Rattle.tree.specs.Walk.{Spot}
 use Rattle.tree.proofs.Turn.{none-left, under-page, pages-next, first-page}
 use Rattle.unit.specs.Choice.{exceeds, lowestEmpty, larger}

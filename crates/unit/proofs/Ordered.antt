@@ -1,18 +1,18 @@
 -- The order unit from the first misplaced leaf. In a well-formed tree no two leaves stand on one page, so that the place of that leaf lies
 -- below its own page. Assumes nothing.
-use Prim.Native.Nat.{ℕ, zero, suc, _+_, _-_, _*_, _≤_, _<_}
+use Prim.Native.Nat.{ℕ, _+_, _-_, _≤_, _<_}
 use native.Mathlib.Omega.{arith}
 use mathlib.Core.Path.{_≡_, refl, sym, ap, _∙_}
 use mathlib.Core.Bool.{Bool, true, false}
 use mathlib.Core.List.{List, [], _∷_, _++_}
 use mathlib.Core.Option.{Option, some, none}
 use lib.ListN.{length, drop, getD, length-drop}
-use lib.Dec.{eqb, leb}
+use lib.Dec.{eqb}
 use borrow.Author.Tests.{eqb-true, leb-true, eq-eqb, ne-eqb}
-use Rattle.field.specs.Test.{both, all, pick}
+use Rattle.field.specs.Test.{pick}
 use Rattle.field.proofs.Test.{both-1, both-2, all-head, pick-true, pick-false}
 use Rattle.field.proofs.Part.{split}
-use Rattle.page.specs.Page.{toPage, pointing, entries, rows, isEmpty}
+use Rattle.page.specs.Page.{toPage, pointing, rows, isEmpty}
 use Rattle.page.specs.Pages.{page, pages}
 use Rattle.page.proofs.Pages.{formed-page, getD-pages, length-pages}
 use Rattle.tree.specs.Tree.{Leaf, under, rootEntries, below, baseEntries, pointers, pointedOnce, wellFormed, leafAt, leavesUnder, leavesBelow, leavesOf}

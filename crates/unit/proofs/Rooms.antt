@@ -6,10 +6,9 @@ use native.Mathlib.Omega.{arith}
 use mathlib.Core.Path.{_≡_, refl, sym, ap, _∙_}
 use mathlib.Core.Bool.{Bool, true, false, false≢true}
 use mathlib.Core.List.{List, [], _∷_, _++_}
-use lib.ListN.{length, drop, getD, length-append, length-drop, drop-of-length-le}
+use lib.ListN.{length, drop, getD, length-append, drop-of-length-le}
 use lib.Seq.{drop-cons}
 use lib.Dec.{eqb}
-use Rattle.field.specs.Test.{pick}
 use Rattle.field.proofs.Test.{pick-either}
 use Rattle.log.specs.Record.{Begin, lengthOf, out}
 use Rattle.log.specs.Table.{kindAt, kinds}
@@ -20,10 +19,10 @@ use Rattle.page.specs.Page.{count}
 use Rattle.page.specs.Pages.{page}
 use Rattle.log.specs.Plan.{Step, takeOut, bringIn, point, close, gather, removals, others, replacing, compactPlan, movePlan, swapPlan, plan}
 use Rattle.log.specs.Log.{beginOk}
-use Rattle.log.proofs.Begin.{Limits, beginOk-limits}
+use Rattle.log.proofs.Begin.{beginOk-limits}
 use Rattle.unit.specs.Next.{stepSize, room}
 use Rattle.unit.specs.Room.{isClose, Inside}
-use Rattle.unit.proofs.Places.{StepKeeps, Keeping, no-step, one-more, plan-keeps}
+use Rattle.unit.proofs.Places.{StepKeeps, Keeping, one-more, plan-keeps}
 
 -- ---- the bytes of an LO, off the table
 

@@ -1,22 +1,22 @@
 -- The choice of a compact unit over all base pages: what holds of the root entries still to be walked. Assumes nothing.
-use Prim.Native.Nat.{ℕ, zero, suc, _+_, _-_, _*_, _≤_, _<_}
+use Prim.Native.Nat.{ℕ, _+_, _-_, _*_, _≤_, _<_}
 use native.Mathlib.Omega.{arith}
-use mathlib.Core.Path.{_≡_, refl, sym, ap, _∙_}
-use mathlib.Core.Bool.{Bool, true, false}
-use mathlib.Core.List.{List, [], _∷_, _++_, append-nil}
+use mathlib.Core.Path.{_≡_, refl, sym, _∙_}
+use mathlib.Core.Bool.{true, false}
+use mathlib.Core.List.{List, [], _∷_, append-nil}
 use mathlib.Core.Option.{Option, some, none}
 use lib.ListN.{length, take, drop}
 use lib.Dec.{eqb}
 use borrow.Author.Tests.{eq-eqb}
 use Rattle.field.specs.Test.{pick, given, when}
-use Rattle.field.specs.Bytes.{part, le2}
+use Rattle.field.specs.Bytes.{le2}
 use Rattle.page.specs.Page.{rowsOf, toPage, count, rows}
 use Rattle.page.specs.Pages.{page, pages}
 use Rattle.page.proofs.Rows.{Each, nil, cons, page-row}
 use Rattle.page.proofs.Turns.{rows-next}
 use Rattle.log.specs.Record.{Begin}
-use Rattle.tree.specs.Tree.{pointers, leavesUnder, leavesBelow, leavesOf, rootEntries, wellFormed}
-use Rattle.tree.specs.Walk.{InForm, Spot, Below, Over, Above}
+use Rattle.tree.specs.Tree.{pointers, leavesUnder, leavesBelow, wellFormed}
+use Rattle.tree.specs.Walk.{InForm, Below, Over, Above}
 use Rattle.tree.proofs.Turn.{each-behind, over-here}
 use Rattle.tree.proofs.Sound.{root-entries, all-over, over-asks}
 use Rattle.unit.specs.Choice.{fillOf, chooseCompact, compactUnit}

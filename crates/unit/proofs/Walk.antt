@@ -1,26 +1,28 @@
 -- The walk over the leaves in key order as code makes it: the root's entries where they stand at the front of all pages, the base page
 -- below the entry in front, the leaves below that, and those behind. Assumes nothing.
-use Prim.Native.Nat.{ℕ, zero, suc, _+_, _-_, _*_, _≤_, _<_}
+use Prim.Native.Nat.{ℕ, _+_, _-_, _*_, _≤_, _<_}
 use native.Mathlib.Omega.{arith}
-use mathlib.Core.Path.{_≡_, refl, sym, ap, _∙_}
-use mathlib.Core.Bool.{Bool, true, false}
-use mathlib.Core.List.{List, [], _∷_, _++_}
+use mathlib.Core.Path.{_≡_, sym, ap, _∙_}
+use mathlib.Core.Bool.{true}
+use mathlib.Core.List.{List, [], _++_}
+use mathlib.Core.Option.{Option}
 use lib.ListN.{length, take, drop, getD, take-append-drop, length-take, length-drop}
 use lib.Seq.{drop-append-le}
 use lib.Dec.{eqb}
-use Rattle.field.specs.Bytes.{part, le2}
-use Rattle.page.specs.Page.{rowsOf, toPage, pointing, count, rows, entries, isEmpty}
-use Rattle.page.specs.Pages.{page, pages, allFormed}
+use Rattle.field.specs.Bytes.{le2}
+use Rattle.page.specs.Page.{rowsOf, pointing, count, rows, entries, isEmpty, formed}
+use Rattle.page.specs.Pages.{page, pages}
 use Rattle.page.proofs.Rows.{rowsOf-front, page-row}
 use Rattle.page.proofs.Turns.{rows-next}
 use Rattle.page.proofs.Pages.{formed-page, lent-page}
-use Rattle.tree.specs.Tree.{under, rootEntries, Leaf, leafAt, leavesUnder, leavesBelow, leavesOf}
+use Rattle.tree.specs.Tree.{rootEntries, leavesUnder, leavesBelow}
 use Rattle.tree.specs.Walk.{InForm}
-use Rattle.tree.proofs.Regions.{root-points}
+use Rattle.tree.proofs.Regions.{entries-ordered, root-points}
 use Rattle.tree.proofs.Turn.{none-left, under-page, letter-page, point-low, point-high, point-behind}
 use Rattle.tree.proofs.Tally.{letter-tells}
 use Rattle.tree.proofs.Sound.{root-entries, root-formed, root-ordered, base-few, base-asks}
 use Rattle.tree.proofs.Chain.{root-rows}
+use Rattle.unit.specs.Next.{lowestTo}
 
 -- a page's letter says whether it is empty
 pub empty-letter : (w : List ℕ) (p : ℕ) → InForm w → p < 64 → eqb (getD w (256 * p + 1) 0) 101 ≡ isEmpty (page p w)
@@ -87,3 +89,14 @@ module _ (w : List ℕ) (at left : ℕ) (a : Ahead w at left) (more : 0 < left) 
 pub base-rows : (w : List ℕ) (q m : ℕ) → m ≡ count (page q w) → rowsOf 8 m (drop 16 (take (256 * q + 256 - 256 * q) (drop (256 * q) w))) ≡ rows 8 (page q w)
 unfolding rows
 base-rows w q m g = rw (lent-page q w, g)
+
+-- a page of the root's or a base page's place, where it is lent: its entries lie within
+pub lent-room : (w : List ℕ) (q m : ℕ) → m ≡ count (page q w) → formed q (page q w) ≡ true → q < 8 → 16 + 8 * m ≤ length (take (256 * q + 256 - 256 * q) (drop (256 * q) w))
+lent-room w q m g f h =
+    let o = entries-ordered q (page q w) f (omega arith) in
+    rw (lent-page q w) (omega (arith, o .room, o .whole))
+
+-- what holds of them holds of the page's entries
+pub lent-lowest! : (w : List ℕ) (q m p : ℕ) (s o : Option ℕ) → o ≡ lowestTo s p (rowsOf 8 m (drop 16 (take (256 * q + 256 - 256 * q) (drop (256 * q) w)))) → m ≡ count (page q w)
+    → o ≡ lowestTo s p (entries (page q w))
+lent-lowest! w q m p s o e g = e ∙ rw (base-rows w q m g)

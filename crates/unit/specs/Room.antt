@@ -1,5 +1,5 @@
 -- A unit's steps as the code goes through them. Assumes nothing.
-use Prim.Native.Nat.{ℕ, _<_}
+use Prim.Native.Nat.{_<_}
 use mathlib.Core.Bool.{Bool, true, false}
 use Rattle.log.specs.Plan.{Step, takeOut, bringIn, point, close}
 

@@ -10,7 +10,6 @@ ghost use Rattle.field.specs.Test.{both, all, pick};
 ghost use Rattle.field.specs.Bytes.{same};
 ghost use Rattle.page.specs.Page.{rowsOf, joined, ascendRecords, records, isLeaf, isEmpty};
 ghost use Rattle.page.specs.Change.{above};
-ghost use Rattle.page.specs.Pages.{page};
 ghost use Rattle.log.specs.Record.{LO, LI, LM};
 ghost use Rattle.unit.specs.Next.{apply};
 ghost use Rattle.unit.specs.Made.{Did};

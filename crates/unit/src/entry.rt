@@ -1,13 +1,15 @@
 // The entry that an LM takes: the lowest to a page, or where it is repeated, the one with its key and page.
 ghost use mathlib.Core.Path.{_≡_};
+ghost use mathlib.Core.Bool.{true};
 ghost use Prim.Native.Nat.{_+_, _*_, _≤_, _<_};
 ghost use lib.ListN.{length, drop};
 ghost use lib.Dec.{eqb};
 ghost use Rattle.field.specs.Test.{both, when};
-ghost use Rattle.page.specs.Page.{rowsOf};
-ghost use Rattle.page.specs.Change.{isEntry};
+ghost use Rattle.page.specs.Page.{rowsOf, entries, formed};
+ghost use Rattle.page.specs.Pages.{page};
 ghost use Rattle.unit.specs.Next.{isOther, lowestTo};
 ghost use Rattle.unit.specs.Made.{keyIn, placeOf};
+use tree::well;
 
 // The key of the lowest entry, if there is one.
 pub enum Lowest {
@@ -71,4 +73,14 @@ pub fn entry_with(pg: &[u8], n: u16, key: u32, p: u16) -> u16
         left -= 1;
     }
     n
+}
+
+// The key of the lowest entry of page b, root or base, that points to page p, but for the one with the key to skip, if there is one.
+pub fn lowest_at(w: &[u8], b: usize, p: u16, skip: bool, skipped: u32) -> Lowest
+    requires { ⌜ (length (now w) ≡ 16384) × (b < 8) × (formed b (page b (now w)) ≡ true) ⌝ }
+    ensures { λ r. ⌜ keyIn r ≡ lowestTo (when skip skipped) p (entries (page b (now (w .entry)))) ⌝ }
+{
+    let n = well::count_at(w, b);
+    let at = 256 * b;
+    lowest_to(&w[at..at + 256], n, p, skip, skipped)
 }

@@ -1,5 +1,5 @@
 -- `unit::compact::choose_compact` meets its contract. Assumes nothing.
-use Prim.Native.Nat.{_≤_, _<_}
+use Prim.Native.Nat.{_<_}
 use Rattle.field.specs.Test.{when}
 use Rattle.tree.specs.Walk.{Over}
 use Rattle.unit.proofs.Roots.{Roots, roots-all, roots-behind, roots-over, roots-room, roots-leaves, top-small, Still, still-all, still-end, still-stop, still-more}

@@ -1,6 +1,6 @@
 -- `unit::compact::joining` meets its contract. Assumes nothing.
-use Prim.Native.Nat.{_≤_, _<_, _+_, _-_, _*_}
-use mathlib.Core.Path.{_≡_, refl, sym, _∙_}
+use Prim.Native.Nat.{_≤_, _+_, _-_, _*_}
+use mathlib.Core.Path.{_≡_}
 use lib.ListN.{length, drop}
 use Rattle.page.specs.Page.{rowsOf}
 use Rattle.page.specs.Pages.{pages}

@@ -1,7 +1,7 @@
 -- `unit::compact::listing` meets its contract. Assumes nothing.
-use Prim.Native.Nat.{_≤_, _<_, _+_, _-_, _*_}
-use mathlib.Core.Path.{_≡_, refl, sym, _∙_}
-use lib.ListN.{length, drop}
+use Prim.Native.Nat.{_≤_, _+_, _-_}
+use mathlib.Core.Path.{_≡_, refl}
+use lib.ListN.{drop}
 use mathlib.Core.List.{_++_}
 use Rattle.field.specs.Bytes.{zeroes}
 use Rattle.page.specs.Page.{rowsOf}

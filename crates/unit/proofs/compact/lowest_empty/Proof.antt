@@ -1,7 +1,7 @@
 -- `unit::compact::lowest_empty` meets its contract. Assumes nothing.
-use Prim.Native.Nat.{_≤_, _<_, _+_, _-_, _*_}
-use mathlib.Core.Path.{_≡_, refl, sym, _∙_}
-use lib.ListN.{length, drop}
+use Prim.Native.Nat.{_≤_, _<_, _-_}
+use mathlib.Core.Path.{_≡_}
+use lib.ListN.{drop}
 use Rattle.page.specs.Pages.{pages}
 use Rattle.unit.specs.Choice.{lowestEmpty}
 use Rattle.unit.proofs.Groups.{low-start!, low-end!, low-stop!, low-more! }

@@ -1,8 +1,8 @@
 -- `unit::entry::entry_with` meets its contract. Assumes nothing.
 use Rattle.unit.specs.Made.{placeOf}
 use Rattle.unit.proofs.Entries.{place-end!, place-stop!, place-more! }
-use Prim.Native.Nat.{_≤_, _<_, _+_, _-_, _*_}
-use mathlib.Core.Path.{_≡_, refl}
+use Prim.Native.Nat.{_≤_, _+_, _-_, _*_}
+use mathlib.Core.Path.{_≡_}
 use lib.ListN.{length, drop}
 use Rattle.page.specs.Page.{rowsOf}
 use borrow.Author.Needs.{needs}

@@ -2,7 +2,7 @@
 use Rattle.field.specs.Test.{when}
 use Rattle.unit.specs.Next.{lowestTo}
 use Rattle.unit.proofs.Entries.{lowest-end!, lowest-stop!, lowest-more! }
-use Prim.Native.Nat.{_≤_, _<_, _+_, _-_, _*_}
+use Prim.Native.Nat.{_≤_, _+_, _-_, _*_}
 use mathlib.Core.Path.{_≡_, refl}
 use lib.ListN.{length, drop}
 use Rattle.page.specs.Page.{rowsOf}

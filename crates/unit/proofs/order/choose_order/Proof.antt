@@ -1,6 +1,5 @@
 -- `unit::order::choose_order` meets its contract. Assumes nothing.
 use Rattle.unit.proofs.Ordered.{want-small, order-none!, order-move!, order-swap! }
-use native.Mathlib.Omega.{arith}
 use borrow.Author.Needs.{needs}
 use Rattle.unit.proofs.order.choose_order.Statement.{statement}
 use Rattle.unit.proofs.order.choose_order.Tie as tie

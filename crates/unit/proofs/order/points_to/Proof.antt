@@ -1,5 +1,5 @@
 -- `unit::order::points_to` meets its contract. Assumes nothing.
-use Prim.Native.Nat.{_≤_, _<_, _+_, _*_}
+use Prim.Native.Nat.{_≤_, _+_, _*_}
 use mathlib.Core.Path.{_≡_, refl}
 use lib.ListN.{length, drop}
 use Rattle.page.specs.Page.{rowsOf}

@@ -1,5 +1,5 @@
 -- `unit::order::stray_leaf` meets its contract. Assumes nothing.
-use Prim.Native.Nat.{_≤_, _<_, _+_, _*_}
+use Prim.Native.Nat.{_≤_, _+_, _*_}
 use mathlib.Core.Path.{_≡_, ap}
 use lib.ListN.{drop}
 use Rattle.page.specs.Page.{rowsOf}

@@ -1,1 +1,7 @@
-// The definitions and laws of this layer; its code comes with the calls.
+// Units: which one is chosen, how much room its steps need, which entry an LM takes, and what one record does to its page.
+pub mod apply;
+pub mod choice;
+pub mod compact;
+pub mod entry;
+pub mod order;
+pub mod room;

@@ -1,0 +1,260 @@
+-- What the code makes of one record is what `apply` says. Assumes nothing.
+use Prim.Native.Nat.{ℕ, suc, _+_, _-_, _*_, _≤_, _<_}
+use native.Mathlib.Nat.{add-sub-cancel-left}
+use native.Mathlib.Omega.{arith}
+use mathlib.Core.Path.{_≡_, refl, sym, ap, _∙_}
+use mathlib.Core.Bool.{Bool, true, false, not}
+use mathlib.Core.List.{List, [], _∷_}
+use mathlib.Core.Option.{Option, some, none}
+use lib.ListN.{length, take, drop, getD}
+use lib.Seq.{take-length}
+use lib.Dec.{eqb, leb}
+use borrow.Author.Tests.{leb-true, eq-eqb, ne-eqb, le-leb, lt-leb, not-true, not-false}
+use Rattle.field.specs.Test.{both, all, pick, given, bind, there}
+use Rattle.field.specs.Bytes.{part, same, le4}
+use Rattle.field.proofs.Test.{both-1, both-true, both-false, both-end, all-head, all-tail, all-true, all-false, pick-true, pick-false, pick-either, when-true, when-false}
+use Rattle.field.proofs.Part.{split}
+use Rattle.page.specs.Page.{rowsOf, joined, keyOf, toPage, ascend, ascendRecords, count, rows, entries, records, isBase, isLeaf, isEmpty}
+use Rattle.page.specs.Change.{above, emptied, appended, has, removed, redirected}
+use Rattle.page.specs.Pages.{page, putPage}
+use Rattle.page.specs.Results.{madeEmpty, madeLonger, madePointing, madeShorter}
+use Rattle.page.proofs.Rows.{length-rowsOf, length-rows, joined-rowsOf, key-row}
+use Rattle.page.proofs.Turns.{rows-next}
+use Rattle.page.proofs.Order.{ascend-facts, found-has}
+use Rattle.page.proofs.Region.{base-whole, leaf-whole}
+use Rattle.page.proofs.Changes.{leaf-takes, pick-takes, base-room, redirected-at, removed-at}
+use Rattle.page.proofs.Pages.{lent-page}
+use Rattle.log.specs.Record.{LO, LI, LM}
+use Rattle.unit.specs.Next.{target, change, changedAt, apply}
+use Rattle.unit.specs.Made.{placeOf, Did}
+use Rattle.unit.proofs.Walk.{base-rows}
+use Rattle.unit.proofs.Entries.{place-facts, place-none}
+
+-- ---- a change that is refused, and one that is made
+
+pub did-none : (o : Option (List ℕ)) (w : List ℕ) → o ≡ none → Did o w false w
+unfolding there given
+did-none o w e = record { said = rw e; left = rw e }
+
+pub did-some : (o : Option (List ℕ)) (w v x : List ℕ) → o ≡ some x → v ≡ x → Did o w true v
+unfolding there given
+did-some o w v x e h = record { said = rw e; left = rw e h }
+
+pub at-none : (p : ℕ) (f : List ℕ → Option (List ℕ)) (w : List ℕ) → f (page p w) ≡ none → changedAt (some p) f w ≡ none
+unfolding changedAt bind
+at-none p f w e = rw e
+
+pub at-some : (p : ℕ) (f : List ℕ → Option (List ℕ)) (w pg : List ℕ) → f (page p w) ≡ some pg → changedAt (some p) f w ≡ some (putPage p pg w)
+unfolding changedAt bind
+at-some p f w pg e = rw e
+
+-- ---- LO
+
+pub not-leaf! : (z : Bool) (pg rs : List ℕ) → z ≡ isLeaf pg → not z ≡ true → false ≡ both (isLeaf pg) (same (joined (records pg)) rs)
+not-leaf! z pg rs e h = sym (both-false _ _ (sym e ∙ not-true z h))
+
+pub leaf-same! : (z r : Bool) (c : ℕ) (pg rs : List ℕ) → z ≡ isLeaf pg → not z ≡ false → c ≡ count pg → r ≡ same (take (16 + 16 * c - 16) (drop 16 pg)) rs
+    → r ≡ both (isLeaf pg) (same (joined (records pg)) rs)
+unfolding rows
+leaf-same! z r c pg rs e h g f =
+    sym (both-true _ _ (sym e ∙ not-false z h) ∙ rw (joined-rowsOf 16 (count pg) (drop 16 pg), ← g, f, add-sub-cancel-left 16 (16 * c)))
+
+pub whole-leaf : (z : Bool) (pg : List ℕ) → z ≡ isLeaf pg → not z ≡ false → length pg ≡ 256
+whole-leaf z pg e h = leaf-whole pg (sym e ∙ not-false z h)
+
+pub room-leaf : (z : Bool) (c : ℕ) (pg : List ℕ) → c ≡ count pg → z ≡ isLeaf pg → not z ≡ false → 16 + 16 * c ≤ length pg
+room-leaf z c pg g e h = let t = leaf-takes pg (sym e ∙ not-false z h) in omega (arith, t .whole, t .few)
+
+joined-all : (k : ℕ) (rs : List ℕ) → length rs ≡ 16 * k → joined (rowsOf 16 k rs) ≡ rs
+joined-all k rs e = joined-rowsOf 16 k rs ∙ rw (← e) (take-length rs)
+
+module _ (w : List ℕ) (org n k : ℕ) (rs : List ℕ) (long : length rs ≡ 16 * k) (z : Bool)
+    (e : z ≡ both (isLeaf (take (256 * org + 256 - 256 * org) (drop (256 * org) w))) (same (joined (records (take (256 * org + 256 - 256 * org) (drop (256 * org) w)))) rs)) where
+  tested : z ≡ both (isLeaf (page org w)) (same (joined (records (page org w))) (joined (rowsOf 16 k rs)))
+  tested = e ∙ rw (lent-page org w, joined-all k rs long)
+
+  pub out-leaf : not z ≡ false → isLeaf (page org w) ≡ true
+  out-leaf h = both-1 _ _ (sym tested ∙ not-false z h)
+
+  pub out-no : not z ≡ true → (dest : ℕ) → Did (apply n (LO org dest (rowsOf 16 k rs)) w) w false w
+  unfolding apply target change emptied
+  out-no h dest = did-none _ w (at-none org (emptied n (rowsOf 16 k rs)) w (when-false _ _ (sym tested ∙ not-true z h)))
+
+  pub out-done : not z ≡ false → (v : List ℕ) → v ≡ putPage org (madeEmpty n (page org w)) w → (dest : ℕ) → Did (apply n (LO org dest (rowsOf 16 k rs)) w) w true v
+  unfolding apply target change emptied
+  out-done h v g dest = did-some _ w v _ (at-some org (emptied n (rowsOf 16 k rs)) w (madeEmpty n (page org w)) (when-true _ _ (sym tested ∙ not-false z h))) g
+
+-- ---- LI
+
+pub open-empty! : (z : Bool) (pg : List ℕ) → z ≡ isEmpty pg → z ≡ true → true ≡ pick (isEmpty pg) true (isLeaf pg)
+open-empty! z pg e h = sym (pick-true (isEmpty pg) true (isLeaf pg) (sym e ∙ h))
+
+pub open-leaf! : (z r : Bool) (pg : List ℕ) → z ≡ isEmpty pg → z ≡ false → r ≡ isLeaf pg → r ≡ pick (isEmpty pg) true (isLeaf pg)
+open-leaf! z r pg e h f = f ∙ sym (pick-false (isEmpty pg) true (isLeaf pg) (sym e ∙ h))
+
+above-last : (lo : ℕ) (rs : List (List ℕ)) → 0 < length rs → above lo rs ≡ keyOf (getD rs (length rs - 1) []) + 1
+unfolding above
+above-last lo [] h = absurd (let x : ⊥ = omega arith in x)
+above-last lo (r ∷ []) h = refl
+above-last lo (r ∷ s ∷ rs) h =
+    let z : length (r ∷ s ∷ rs) - 1 ≡ suc (length (s ∷ rs) - 1) = omega arith in
+    rw z (above-last (keyOf r + 1) (s ∷ rs) (omega arith))
+
+pub after-none! : (n : ℕ) (pg : List ℕ) → n ≡ count pg → n ≡ 0 → 0 ≡ above 0 (records pg)
+unfolding rows rowsOf above
+after-none! n pg e h = let z : count pg ≡ 0 = sym e ∙ h in rw z
+
+pub after-last! : (n k : ℕ) (pg : List ℕ) → n ≡ count pg → (n ≡ 0 → ⊥) → k ≡ keyOf (getD (records pg) (n - 1) []) → k + 1 ≡ above 0 (records pg)
+after-last! n k pg e h f =
+    let l : length (records pg) ≡ n = length-rows 16 pg ∙ sym e in
+    let m : 0 < length (records pg) = split 0 n (λ a. omega arith) (λ a. absurd (h (omega arith))) in
+    sym (above-last 0 (records pg) m ∙ rw (l, ← f))
+
+-- rows in order follow a key where their first does
+ascend-first : (a b lo : ℕ) (r : List ℕ) (rs : List (List ℕ)) → ascend a b 0 (r ∷ rs) ≡ true → ascend a b lo (r ∷ rs) ≡ leb lo (keyOf r)
+unfolding ascend
+ascend-first a b lo r rs e =
+    let f = ascend-facts a b 0 r rs e in
+    rw (eq-eqb (getD r 0 0) a (f .one), eq-eqb (getD r 1 0) b (f .two), f .after) (unfold both in both-end (leb lo (keyOf r)))
+
+ascend-follow : (lo k : ℕ) (rs : List ℕ) → 1 ≤ k → ascendRecords 0 (rowsOf 16 k rs) ≡ true → ascendRecords lo (rowsOf 16 k rs) ≡ leb lo (le4 rs 2)
+ascend-follow lo k rs h e =
+    let q : rowsOf 16 k rs ≡ part 0 16 rs ∷ rowsOf 16 (k - 1) (drop (0 + 16) rs) = rows-next 16 k 0 rs h in
+    let r : ascendRecords 0 (part 0 16 rs ∷ rowsOf 16 (k - 1) (drop (0 + 16) rs)) ≡ true = rw q at e in
+    rw q (ascend-first 114 99 lo (part 0 16 rs) (rowsOf 16 (k - 1) (drop (0 + 16) rs)) r) ∙ ap (leb lo) (key-row 16 0 rs (omega arith))
+
+all-one : (b : Bool) → all (b ∷ []) ≡ b
+unfolding all
+all-one b = both-end b
+
+-- the test of an LI: its page, the room there, its keys
+abbrev test : (k : ℕ) (rs pg : List ℕ) → Bool
+test k rs pg = all (pick (isEmpty pg) true (isLeaf pg) ∷ leb (length (records pg) + k) 15 ∷ ascendRecords (above 0 (records pg)) (rowsOf 16 k rs) ∷ [])
+
+module _ (z : Bool) (k : ℕ) (rs pg : List ℕ) (e : z ≡ pick (isEmpty pg) true (isLeaf pg)) where
+  pub takes-page! : not z ≡ true → false ≡ test k rs pg
+  takes-page! h = sym (all-false _ _ (sym e ∙ not-true z h))
+
+  pub takes-open : not z ≡ false → pick (isEmpty pg) true (isLeaf pg) ≡ true
+  takes-open h = sym e ∙ not-false z h
+
+  pub takes-whole : not z ≡ false → length pg ≡ 256
+  takes-whole h = pick-takes pg (takes-open h) .whole
+
+  module _ (h : not z ≡ false) (c : ℕ) (g : c ≡ count pg) where
+    pub takes-few : c ≤ 15
+    takes-few = omega (arith, pick-takes pg (takes-open h) .few)
+
+    fits : test k rs pg ≡ all (leb (c + k) 15 ∷ ascendRecords (above 0 (records pg)) (rowsOf 16 k rs) ∷ [])
+    fits = all-true _ _ (sym e ∙ not-false z h) ∙ rw (length-rows 16 pg, g)
+
+    pub takes-room! : 15 < c + k → false ≡ test k rs pg
+    takes-room! m = sym (fits ∙ all-false _ _ (lt-leb (c + k) 15 m))
+
+    pub takes-keys! : (lo f : ℕ) → lo ≡ above 0 (records pg) → f ≡ le4 rs 2 → c + k ≤ 15 → 1 ≤ k → ascendRecords 0 (rowsOf 16 k rs) ≡ true → leb lo f ≡ test k rs pg
+    takes-keys! lo f a b m more t =
+        sym (fits ∙ all-true _ _ (le-leb (c + k) 15 m) ∙ all-one (ascendRecords (above 0 (records pg)) (rowsOf 16 k rs)) ∙ rw (← a, b) (ascend-follow lo k rs more t))
+
+module _ (w : List ℕ) (dest n k : ℕ) (rs : List ℕ) (z : Bool) (e : z ≡ test k rs (take (256 * dest + 256 - 256 * dest) (drop (256 * dest) w))) where
+  checked : z ≡ test k rs (page dest w)
+  checked = e ∙ rw (lent-page dest w)
+
+  asks : z ≡ all (pick (isEmpty (page dest w)) true (isLeaf (page dest w)) ∷ leb (length (records (page dest w)) + length (rowsOf 16 k rs)) 15
+      ∷ ascendRecords (above 0 (records (page dest w))) (rowsOf 16 k rs) ∷ [])
+  asks = checked ∙ rw (length-rowsOf 16 k rs)
+
+  pub in-open : not z ≡ false → pick (isEmpty (page dest w)) true (isLeaf (page dest w)) ≡ true
+  in-open h = all-head _ _ (sym checked ∙ not-false z h)
+
+  pub in-room : not z ≡ false → count (page dest w) + k ≤ 15
+  in-room h = omega (arith, length-rows 16 (page dest w), leb-true (length (records (page dest w)) + k) 15 (all-head _ _ (all-tail _ _ (sym checked ∙ not-false z h))))
+
+  pub in-no : not z ≡ true → (org back : ℕ) → Did (apply n (LI org dest back (rowsOf 16 k rs)) w) w false w
+  unfolding apply target change appended
+  in-no h org back = did-none _ w (at-none dest (appended n (rowsOf 16 k rs)) w (when-false _ _ (sym asks ∙ not-true z h)))
+
+  pub in-done : not z ≡ false → (v : List ℕ) → v ≡ putPage dest (madeLonger n (rowsOf 16 k rs) (page dest w)) w → (org back : ℕ)
+      → Did (apply n (LI org dest back (rowsOf 16 k rs)) w) w true v
+  unfolding apply target change appended
+  in-done h v g org back =
+      did-some _ w v _ (at-some dest (appended n (rowsOf 16 k rs)) w (madeLonger n (rowsOf 16 k rs) (page dest w)) (when-true _ _ (sym asks ∙ not-false z h))) g
+
+-- ---- LM
+
+module _ (w : List ℕ) (base n old new key : ℕ) where
+  refused : removed n key old (page base w) ≡ none → redirected n key old new (page base w) ≡ none → Did (apply n (LM base old new key) w) w false w
+  unfolding apply target change
+  refused a b =
+      did-none _ w
+      (at-none base (λ pg. pick (eqb new 0) (removed n key old pg) (redirected n key old new pg)) w
+      (pick-either (λ (o : Option (List ℕ)). o ≡ none) (eqb new 0) (removed n key old (page base w)) (redirected n key old new (page base w)) a b))
+
+  module _ (z : Bool) (e : z ≡ isBase (take (256 * base + 256 - 256 * base) (drop (256 * base) w))) where
+    is : z ≡ isBase (page base w)
+    is = e ∙ rw (lent-page base w)
+
+    pub modify-page : not z ≡ true → Did (apply n (LM base old new key) w) w false w
+    unfolding removed redirected
+    modify-page h =
+        let q : isBase (page base w) ≡ false = sym is ∙ not-true z h in
+        refused (when-false _ _ (all-false _ _ q)) (when-false _ _ (both-false _ _ q))
+
+    pub modify-room : (c : ℕ) → c ≡ count (page base w) → not z ≡ false → 16 + 8 * c ≤ length (take (256 * base + 256 - 256 * base) (drop (256 * base) w))
+    modify-room c g h =
+        let q : isBase (page base w) ≡ true = sym is ∙ not-false z h in
+        rw (lent-page base w) (omega (arith, base-whole (page base w) q, base-room (page base w) q))
+
+    module _ (t : not z ≡ false) (c i : ℕ) (g : c ≡ count (page base w))
+        (f : i ≡ placeOf key old (rowsOf 8 c (drop 16 (take (256 * base + 256 - 256 * base) (drop (256 * base) w))))) where
+      pub modify-base : isBase (page base w) ≡ true
+      modify-base = sym is ∙ not-false z t
+
+      placed : i ≡ placeOf key old (entries (page base w))
+      placed = f ∙ rw (base-rows w base c g)
+
+      long : length (entries (page base w)) ≡ c
+      long = length-rows 8 (page base w) ∙ sym g
+
+      pub modify-missing : i ≡ c → Did (apply n (LM base old new key) w) w false w
+      unfolding removed redirected
+      modify-missing h =
+          let q : has key old (entries (page base w)) ≡ false = place-none key old (entries (page base w)) (sym placed ∙ h ∙ sym long) in
+          refused (when-false _ _ (all-true _ _ modify-base ∙ all-false _ _ q)) (when-false _ _ (both-true _ _ modify-base ∙ q))
+
+      module _ (few : i ≤ c) (ne : i ≡ c → ⊥) where
+        pub modify-inside : i < count (page base w)
+        modify-inside = split i c (λ a. omega arith) (λ a. absurd (ne (omega arith)))
+
+        at : i < length (entries (page base w))
+        at = omega (arith, modify-inside, long)
+
+        found : (keyOf (getD (entries (page base w)) i []) ≡ key) × (toPage (getD (entries (page base w)) i []) ≡ old)
+        found = rw placed (place-facts key old (entries (page base w)) (rw (← placed) at))
+
+        pub modify-point : (new ≡ 0 → ⊥) → (v : List ℕ) → v ≡ putPage base (madePointing n i new (page base w)) w → Did (apply n (LM base old new key) w) w true v
+        unfolding apply target change
+        modify-point h v d =
+            let r : redirected n key old new (page base w) ≡ some (madePointing n i new (page base w)) =
+            rw (← (found .0), ← (found .1)) (redirected-at n i (page base w) modify-base modify-inside new) in
+            did-some _ w v _
+            (at-some base (λ pg. pick (eqb new 0) (removed n key old pg) (redirected n key old new pg)) w (madePointing n i new (page base w))
+            (pick-false (eqb new 0) _ _ (ne-eqb new 0 h) ∙ r)) d
+
+        module _ (h : new ≡ 0) where
+          pub modify-only : c < 2 → Did (apply n (LM base old new key) w) w false w
+          unfolding apply target change removed
+          modify-only m =
+              let k : leb 2 (length (entries (page base w))) ≡ false = lt-leb 2 (length (entries (page base w))) (omega (arith, long)) in
+              did-none _ w
+              (at-none base (λ pg. pick (eqb new 0) (removed n key old pg) (redirected n key old new pg)) w
+              (pick-true (eqb new 0) _ _ (eq-eqb new 0 h)
+              ∙ when-false _ _ (all-true _ _ modify-base ∙ all-true _ _ (found-has key old i (entries (page base w)) at (found .0) (found .1)) ∙ all-false _ _ k)))
+
+          pub modify-remove : 2 ≤ c → (v : List ℕ) → v ≡ putPage base (madeShorter n i (page base w)) w → Did (apply n (LM base old new key) w) w true v
+          unfolding apply target change
+          modify-remove m v d =
+              let r : removed n key old (page base w) ≡ some (madeShorter n i (page base w)) =
+              rw (← (found .0), ← (found .1)) (removed-at n i (page base w) modify-base modify-inside (omega arith)) in
+              did-some _ w v _
+              (at-some base (λ pg. pick (eqb new 0) (removed n key old pg) (redirected n key old new pg)) w (madeShorter n i (page base w))
+              (pick-true (eqb new 0) _ _ (eq-eqb new 0 h) ∙ r)) d

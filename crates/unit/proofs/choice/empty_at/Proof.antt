@@ -1,0 +1,20 @@
+-- `unit::choice::empty_at` meets its contract. Assumes nothing.
+use native.Mathlib.Omega.{arith}
+use Rattle.unit.proofs.Walk.{empty-letter}
+use Rattle.unit.proofs.choice.empty_at.Statement.{statement}
+use Rattle.unit.proofs.choice.empty_at.Tie as tie
+
+mul-result : tie.Need-mul-result
+mul-result c = omega arith
+
+add-result : tie.Need-add-result
+add-result c = omega arith
+
+shared-slice-read-result : tie.Need-shared-slice-read-result
+shared-slice-read-result c = omega (arith, c .before .pre .0 .whole)
+
+returns : tie.Need-returns
+returns c = let a = c .before in empty-letter (a .args .w .now) (a .args .p) (a .pre .0) (a .pre .1)
+
+pub empty-at-spec : {M : Type 1} → statement M
+empty-at-spec = tie.close (tie.spec mul-result add-result shared-slice-read-result returns)

@@ -1,0 +1,78 @@
+-- `unit::entry::entry_with` meets its contract. Assumes nothing.
+use Rattle.unit.specs.Made.{placeOf}
+use Rattle.unit.proofs.Entries.{place-end!, place-stop!, place-more! }
+use Prim.Native.Nat.{_≤_, _+_, _-_, _*_}
+use mathlib.Core.Path.{_≡_}
+use lib.ListN.{length, drop}
+use Rattle.page.specs.Page.{rowsOf}
+use borrow.Author.Needs.{needs}
+use native.Mathlib.Omega.{arith}
+use Rattle.unit.proofs.entry.entry_with.Statement.{statement}
+use Rattle.unit.proofs.entry.entry_with.Tie as tie
+
+abbrev Inv-loop : tie.InvT-loop
+Inv-loop pg n key p at₀ left₀ at left =
+    (left ≤ n) × (at + 8 * left ≤ length pg)
+    × (placeOf key p (rowsOf 8 n (drop 16 pg)) ≡ n - left + placeOf key p (rowsOf 8 left (drop at pg)))
+
+abbrev μ-loop : tie.MeasureT-loop
+μ-loop pg n key p at₀ left₀ at left = left
+
+loop-holds : tie.Need-loop-holds Inv-loop μ-loop
+loop-holds c = (omega arith, omega arith, omega arith)
+
+add-get2 : tie.Need-add-get2 Inv-loop μ-loop
+add-get2 c = omega arith
+
+get2-requires : tie.Need-get2-requires Inv-loop μ-loop
+get2-requires c κs = omega arith
+
+add-get4 : tie.Need-add-get4 Inv-loop μ-loop
+add-get4 c = omega arith
+
+get4-requires : tie.Need-get4-requires Inv-loop μ-loop
+get4-requires c κs = omega arith
+
+is-entry-requires : tie.Need-is-entry-requires Inv-loop μ-loop
+is-entry-requires c κs = search needs
+
+sub-result : tie.Need-sub-result Inv-loop μ-loop
+sub-result c = omega arith
+
+returns : tie.Need-returns Inv-loop μ-loop
+returns c = (search place-stop!, omega arith)
+
+add-at : tie.Need-add-at Inv-loop μ-loop
+add-at c = omega arith
+
+sub-left : tie.Need-sub-left Inv-loop μ-loop
+sub-left c = omega arith
+
+loop-less : tie.Need-loop-less Inv-loop μ-loop
+loop-less c = omega arith
+
+loop-again : tie.Need-loop-again Inv-loop μ-loop
+loop-again c = (omega arith, omega arith, search place-more!)
+
+returns-2 : tie.Need-returns-2 Inv-loop μ-loop
+returns-2 c = (search place-end!, omega arith)
+
+pub entry-with-spec : {M : Type 1} → statement M
+entry-with-spec =
+    tie.close
+    (tie.spec
+    Inv-loop
+    μ-loop
+    loop-holds
+    add-get2
+    get2-requires
+    add-get4
+    get4-requires
+    is-entry-requires
+    sub-result
+    returns
+    add-at
+    sub-left
+    loop-less
+    loop-again
+    returns-2)

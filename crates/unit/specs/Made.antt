@@ -1,0 +1,25 @@
+-- How the code finds an entry, and what it leaves of the pages: the answer of a change that may be refused. Assumes nothing.
+use Prim.Native.Nat.{ℕ, suc}
+use mathlib.Core.Path.{_≡_}
+use mathlib.Core.Bool.{Bool}
+use mathlib.Core.List.{List, [], _∷_}
+use mathlib.Core.Option.{Option, some, none}
+use Rattle.field.specs.Test.{pick, given, there}
+use Rattle.page.specs.Change.{isEntry}
+use Rattle.unit.specs.declared.entry.Lowest.{Lowest}
+use Rattle.unit.specs.declared.entry.Lowest.the-variants.{Nothing, Key}
+
+-- the key of the lowest entry, if there is one
+unfoldable pub keyIn : Lowest → Option ℕ
+keyIn Nothing = none
+keyIn (Key k) = some k
+
+-- the place of the entry with this key to this page, the number of entries where there is none
+unfoldable pub placeOf : (key p : ℕ) → (es : List (List ℕ)) → ℕ
+placeOf key p [] = 0
+placeOf key p (e ∷ es) = let rest = placeOf key p es in pick (isEntry key p e) 0 (suc rest)
+
+-- r says whether there is an o, and v is it; where there is none, v is what was
+pub record Did (o : Option (List ℕ)) (w : List ℕ) (r : Bool) (v : List ℕ) : Type 0 where
+  pub said : r ≡ there o
+  pub left : v ≡ given o w (λ x. x)

@@ -1,0 +1,121 @@
+// What one record does to its page, in a step and repeated alike. Each function tests first: where it answers false, reply 5, no byte
+// has changed.
+ghost use mathlib.Core.Path.{_≡_};
+ghost use mathlib.Core.Bool.{true};
+ghost use mathlib.Core.List.{[], _∷_};
+ghost use Prim.Native.Nat.{ℕ, _+_, _*_, _≤_, _<_};
+ghost use lib.ListN.{length};
+ghost use lib.Dec.{leb};
+ghost use Rattle.field.specs.Test.{both, all, pick};
+ghost use Rattle.field.specs.Bytes.{same};
+ghost use Rattle.page.specs.Page.{rowsOf, joined, ascendRecords, records, isLeaf, isEmpty};
+ghost use Rattle.page.specs.Change.{above};
+ghost use Rattle.log.specs.Record.{LO, LI, LM};
+ghost use Rattle.unit.specs.Next.{apply};
+ghost use Rattle.unit.specs.Made.{Did};
+use crate::entry;
+use field::LogNo;
+use field::PageNo;
+use page::form;
+use page::place;
+use page::view;
+use tree::well;
+
+// Whether a page is a leaf of exactly the records rs.
+fn holds(pg: &[u8], rs: &[u8]) -> bool
+    ensures { λ r. ⌜ r ≡ both (isLeaf (now (pg .entry))) (same (joined (records (now (pg .entry)))) (now (rs .entry))) ⌝ }
+{
+    if !form::is_leaf(pg) {
+        return false;
+    }
+    let end = 16 + 16 * (view::count(pg) as usize);
+    field::same_bytes(&pg[16..end], rs)
+}
+
+// An LO: page org, a leaf of exactly these k records, is made empty.
+pub fn take_out(w: &mut [u8], org: PageNo, rs: &[u8], k: u16, n: LogNo) -> bool
+    requires { ⌜ (length (now w) ≡ 16384) × (org .0 < 64) × (length (now rs) ≡ 16 * k) ⌝ }
+    ensures { λ r. ⌜ ((dest : ℕ) → Did (apply (n .0) (LO (org .0) dest (rowsOf 16 k (now (rs .entry)))) (now (w .entry))) (now (w .entry)) r (now (w .exit))) ⌝ }
+{
+    let at = 256 * (org.0 as usize);
+    if !holds(&w[at..at + 256], rs) {
+        return false;
+    }
+    place::make_empty_at(w, org, n);
+    true
+}
+
+// Whether a page is empty or a leaf.
+fn open_to(pg: &[u8]) -> bool
+    ensures { λ r. ⌜ r ≡ pick (isEmpty (now (pg .entry))) true (isLeaf (now (pg .entry))) ⌝ }
+{
+    if form::is_empty(pg) {
+        return true;
+    }
+    form::is_leaf(pg)
+}
+
+// The least key that may follow those of an empty or leaf page.
+fn least_after(pg: &[u8]) -> u64
+    requires { ⌜ pick (isEmpty (now pg)) true (isLeaf (now pg)) ≡ true ⌝ }
+    ensures { λ r. ⌜ r ≡ above 0 (records (now (pg .entry))) ⌝ }
+{
+    let n = view::count(pg) as usize;
+    if n == 0 {
+        return 0;
+    }
+    view::row_key(pg, 16, n - 1) as u64 + 1
+}
+
+// Whether k records in order may be appended to a page: it is empty or a leaf that ends below their keys, with room for them.
+fn takes(pg: &[u8], rs: &[u8], k: u16) -> bool
+    requires { ⌜ (1 ≤ k) × (k ≤ 15) × (length (now rs) ≡ 16 * k) × (ascendRecords 0 (rowsOf 16 k (now rs)) ≡ true) ⌝ }
+    ensures { λ r. ⌜ r ≡ all (pick (isEmpty (now (pg .entry))) true (isLeaf (now (pg .entry))) ∷ leb (length (records (now (pg .entry))) + k) 15 ∷ ascendRecords (above 0 (records (now (pg .entry)))) (rowsOf 16 k (now (rs .entry))) ∷ []) ⌝ }
+{
+    if !open_to(pg) {
+        return false;
+    }
+    if 15 < view::count(pg) + k {
+        return false;
+    }
+    least_after(pg) <= field::get4(rs, 2) as u64
+}
+
+// An LI: the k records of its LO are appended to page dest, an empty page or a leaf that ends below their keys, with room to 15.
+pub fn bring_in(w: &mut [u8], dest: PageNo, rs: &[u8], k: u16, n: LogNo) -> bool
+    requires { ⌜ (length (now w) ≡ 16384) × (dest .0 < 64) ⌝ }
+    requires { ⌜ (1 ≤ k) × (k ≤ 15) × (length (now rs) ≡ 16 * k) × (ascendRecords 0 (rowsOf 16 k (now rs)) ≡ true) ⌝ }
+    ensures { λ r. ⌜ ((org back : ℕ) → Did (apply (n .0) (LI org (dest .0) back (rowsOf 16 k (now (rs .entry)))) (now (w .entry))) (now (w .entry)) r (now (w .exit))) ⌝ }
+{
+    let at = 256 * (dest.0 as usize);
+    if !takes(&w[at..at + 256], rs, k) {
+        return false;
+    }
+    place::append_at(w, dest, rs, k, n);
+    true
+}
+
+// An LM: the entry of page base with this key to page old points to page new, or where new is 0, is removed if it is not the only one.
+pub fn modify(w: &mut [u8], base: PageNo, old: u16, new: u16, key: u32, n: LogNo) -> bool
+    requires { ⌜ (length (now w) ≡ 16384) × (base .0 < 64) × (new < 64) ⌝ }
+    ensures { λ r. ⌜ Did (apply (n .0) (LM (base .0) old new key) (now (w .entry))) (now (w .entry)) r (now (w .exit)) ⌝ }
+{
+    let at = 256 * (base.0 as usize);
+    if !form::is_base(&w[at..at + 256]) {
+        return false;
+    }
+    let rows = well::count_at(w, base.0 as usize);
+    let i = entry::entry_with(&w[at..at + 256], rows, key, old);
+    if i == rows {
+        return false;
+    }
+    if new != 0 {
+        place::redirect_at(w, base, i as usize, PageNo(new as u32), n);
+        return true;
+    }
+    if rows < 2 {
+        return false;
+    }
+    place::remove_at(w, base, i as usize, n);
+    true
+}

@@ -1,0 +1,91 @@
+// A chosen unit by value: all that its begin record says but its number.
+ghost use mathlib.Core.Path.{_≡_};
+ghost use Prim.Native.Nat.{_+_, _*_, _<_};
+ghost use mathlib.Core.Option.{none, some};
+ghost use Rattle.page.specs.Page.{isEmpty};
+ghost use Rattle.page.specs.Pages.{page};
+ghost use Rattle.tree.specs.Walk.{InForm};
+ghost use Rattle.unit.specs.Choice.{moveOf, swapOf};
+ghost use Rattle.unit.specs.Chosen.{Picks, leafOf};
+
+// The unit's type and fill, its base pages and leaves, of which the first base_count and leaf_count are listed and the others are zero,
+// and its destination.
+pub struct Choice {
+    pub found: bool,
+    pub kind: u8,
+    pub fill: u8,
+    pub base_count: u8,
+    pub leaf_count: u8,
+    pub bases: [u16; 2],
+    pub leaves: [u16; 8],
+    pub dest: u16,
+}
+
+// No unit.
+pub fn nothing() -> Choice
+    ensures { λ r. ⌜ Picks r (λ u. none) ⌝ }
+{
+    Choice {
+        found: false,
+        kind: 0,
+        fill: 0,
+        base_count: 0,
+        leaf_count: 0,
+        bases: [0; 2],
+        leaves: [0; 8],
+        dest: 0,
+    }
+}
+
+// The move of a leaf under a base page to an empty page.
+pub fn moving(base: u16, page: u16, dest: u16) -> Choice
+    ensures { λ r. ⌜ Picks r (λ u. some (moveOf u (leafOf base page) dest)) ⌝ }
+{
+    Choice {
+        found: true,
+        kind: 3,
+        fill: 0,
+        base_count: 1,
+        leaf_count: 1,
+        bases: [base, 0],
+        leaves: [page, 0, 0, 0, 0, 0, 0, 0],
+        dest: dest,
+    }
+}
+
+// The swap of the leaf on page a, under another base page or the same, with the leaf on the page given.
+pub fn swapping(base: u16, page: u16, a: u16, other: u16) -> Choice
+    ensures { λ r. ⌜ Picks r (λ u. some (swapOf u (leafOf base page) a other)) ⌝ }
+{
+    let leaves = [a, page, 0, 0, 0, 0, 0, 0];
+    if other == base {
+        return Choice {
+            found: true,
+            kind: 2,
+            fill: 0,
+            base_count: 1,
+            leaf_count: 2,
+            bases: [other, 0],
+            leaves: leaves,
+            dest: 0,
+        };
+    }
+    Choice {
+        found: true,
+        kind: 2,
+        fill: 0,
+        base_count: 2,
+        leaf_count: 2,
+        bases: [other, base],
+        leaves: leaves,
+        dest: 0,
+    }
+}
+
+// Whether page p is empty: its letter says so.
+pub fn empty_at(w: &[u8], p: usize) -> bool
+    requires { ⌜ InForm (now w) × (p < 64) ⌝ }
+    ensures { λ r. ⌜ r ≡ isEmpty (page p (now (w .entry))) ⌝ }
+{
+    w[256 * p + 1] == b'e'
+}

@@ -1,5 +1,5 @@
--- Laws about units: where their steps change pages, what a record leaves of its page, how the leaves are walked in key order, and the
--- choice of a unit.
+-- Laws about units: where their steps change pages, and what a record leaves of its page; how the leaves are walked in key order, and the
+-- choice of an order unit and of a compact unit; what remains of a unit; the entry that an LM takes; what the code makes of one record.
 pub mod Places
 pub mod Changed
 pub mod Walk
@@ -11,3 +11,4 @@ pub mod Roots
 pub mod Rooms
 pub mod Entries
 pub mod Applied
+pub mod Repeats

@@ -8,10 +8,11 @@ ghost use lib.ListN.{length};
 ghost use lib.Dec.{leb};
 ghost use Rattle.field.specs.Test.{both, all, pick};
 ghost use Rattle.field.specs.Bytes.{same};
-ghost use Rattle.page.specs.Page.{rowsOf, joined, ascendRecords, records, isLeaf, isEmpty};
+ghost use Rattle.page.specs.Page.{rowsOf, joined, ascendRecords, number, records, isLeaf, isEmpty};
 ghost use Rattle.page.specs.Change.{above};
+ghost use Rattle.page.specs.Pages.{page};
 ghost use Rattle.log.specs.Record.{LO, LI, LM};
-ghost use Rattle.unit.specs.Next.{apply};
+ghost use Rattle.unit.specs.Next.{apply, repeat};
 ghost use Rattle.unit.specs.Made.{Did};
 use crate::entry;
 use field::LogNo;
@@ -118,4 +119,46 @@ pub fn modify(w: &mut [u8], base: PageNo, old: u16, new: u16, key: u32, n: LogNo
     }
     place::remove_at(w, base, i as usize, n);
     true
+}
+
+// Whether page p already has the change of the record numbered n, or a later one: the record is then not repeated.
+fn stamped(w: &[u8], p: PageNo, n: LogNo) -> bool
+    requires { ⌜ (length (now w) ≡ 16384) × (p .0 < 64) ⌝ }
+    ensures { λ r. ⌜ r ≡ leb (n .0) (number (page (p .0) (now (w .entry)))) ⌝ }
+{
+    n.0 <= field::get4(w, 256 * (p.0 as usize) + 4)
+}
+
+// An LO repeated.
+pub fn repeat_out(w: &mut [u8], org: PageNo, rs: &[u8], k: u16, n: LogNo) -> bool
+    requires { ⌜ (length (now w) ≡ 16384) × (org .0 < 64) × (length (now rs) ≡ 16 * k) ⌝ }
+    ensures { λ r. ⌜ ((dest : ℕ) → Did (repeat (n .0) (LO (org .0) dest (rowsOf 16 k (now (rs .entry)))) (now (w .entry))) (now (w .entry)) r (now (w .exit))) ⌝ }
+{
+    if stamped(w, org, n) {
+        return true;
+    }
+    take_out(w, org, rs, k, n)
+}
+
+// An LI repeated.
+pub fn repeat_in(w: &mut [u8], dest: PageNo, rs: &[u8], k: u16, n: LogNo) -> bool
+    requires { ⌜ (length (now w) ≡ 16384) × (dest .0 < 64) ⌝ }
+    requires { ⌜ (1 ≤ k) × (k ≤ 15) × (length (now rs) ≡ 16 * k) × (ascendRecords 0 (rowsOf 16 k (now rs)) ≡ true) ⌝ }
+    ensures { λ r. ⌜ ((org back : ℕ) → Did (repeat (n .0) (LI org (dest .0) back (rowsOf 16 k (now (rs .entry)))) (now (w .entry))) (now (w .entry)) r (now (w .exit))) ⌝ }
+{
+    if stamped(w, dest, n) {
+        return true;
+    }
+    bring_in(w, dest, rs, k, n)
+}
+
+// An LM repeated.
+pub fn repeat_modify(w: &mut [u8], base: PageNo, old: u16, new: u16, key: u32, n: LogNo) -> bool
+    requires { ⌜ (length (now w) ≡ 16384) × (base .0 < 64) × (new < 64) ⌝ }
+    ensures { λ r. ⌜ Did (repeat (n .0) (LM (base .0) old new key) (now (w .entry))) (now (w .entry)) r (now (w .exit)) ⌝ }
+{
+    if stamped(w, base, n) {
+        return true;
+    }
+    modify(w, base, old, new, key, n)
 }

@@ -1,0 +1,67 @@
+// Writing what a command left, and the state after it.
+use crate::state;
+use crate::state::State;
+use store::Answer;
+use store::FindAnswer;
+use store::ListAnswer;
+use store::RecoverAnswer;
+
+// A command that is unknown, cut short or out of its limits: writes 255 and ends the script.
+pub fn bad(at: State) -> State {
+    io::write_all(libc::STDOUT_FILENO, &[255u8]);
+    state::ended(at)
+}
+
+// Writes a call's reply.
+pub fn replied(at: State, a: Answer) -> State {
+    io::write_all(libc::STDOUT_FILENO, &[a.reply]);
+    let numbers = a.numbers;
+    state::with_numbers(at, numbers)
+}
+
+// Writes recovery's reply and count.
+pub fn recovered(at: State, a: RecoverAnswer) -> State {
+    let r = a.recovered;
+    let mut bytes = [0u8; 5];
+    bytes[0] = r.reply;
+    field::put4(&mut bytes, 1, r.count);
+    io::write_all(libc::STDOUT_FILENO, &bytes);
+    let numbers = a.numbers;
+    state::with_numbers(at, numbers)
+}
+
+// Writes find's reply and value.
+pub fn found(at: State, a: FindAnswer) -> State {
+    let f = a.found;
+    let value = f.value;
+    io::write_all(libc::STDOUT_FILENO, &[f.reply]);
+    io::write_all(libc::STDOUT_FILENO, &value);
+    let numbers = a.numbers;
+    state::with_numbers(at, numbers)
+}
+
+// Writes list's reply, count, whether more remain, and the room.
+pub fn listed(at: State, a: ListAnswer, room: &[u8]) -> State {
+    let l = a.listed;
+    let mut bytes = [0u8; 6];
+    bytes[0] = l.reply;
+    bytes[5] = flag(l.more);
+    field::put4(&mut bytes, 1, l.count);
+    io::write_all(libc::STDOUT_FILENO, &bytes);
+    io::write_all(libc::STDOUT_FILENO, room);
+    let numbers = a.numbers;
+    state::with_numbers(at, numbers)
+}
+
+// Writes the numbers.
+pub fn numbers(at: State) {
+    let n = at.numbers;
+    let mut bytes = [0u8; 8];
+    field::put4(&mut bytes, 0, n.used);
+    field::put4(&mut bytes, 4, n.forced);
+    io::write_all(libc::STDOUT_FILENO, &bytes);
+}
+
+fn flag(b: bool) -> u8 {
+    if b { 1 } else { 0 }
+}

@@ -17,10 +17,11 @@
 // A call writes its reply, 1 byte; find then the value, 10; list the count, 4, whether more remain, 1, and the room; recover the count, 4.
 // A dump is work, store and log at their lent lengths, used 4 and forced 4. The end of input between commands ends the program. A command
 // that is unknown, cut short or out of these limits writes one byte 255 and ends it.
+mod build;
 mod change;
 mod input;
 mod output;
-mod read;
+mod reading;
 mod setting;
 mod state;
 
@@ -38,10 +39,10 @@ fn turn(at: State, work: &mut [u8], store: &mut [u8], log: &mut [u8], room: &mut
         b'g' => setting::log(at, log),
         b'n' => setting::numbers(at),
         b'z' => setting::lengths(at),
-        b'D' => read::dump(at, work, store, log),
-        b'B' => read::build(at, work, store, log, room),
-        b'G' => read::find(at, work, log),
-        b'L' => read::list(at, work, log, room),
+        b'D' => reading::dump(at, work, store, log),
+        b'B' => build::build(at, work, store, log, room),
+        b'G' => reading::find(at, work, log),
+        b'L' => reading::list(at, work, log, room),
         _ => change::turn(at, letter, work, store, log),
     }
 }
@@ -57,6 +58,7 @@ fn serve(work: &mut [u8], store: &mut [u8], log: &mut [u8], room: &mut [u8]) {
     }
 }
 
+// The buffers, the first three with one byte past their right lengths.
 fn main() {
     let mut work = [0u8; 16385];
     let mut store = [0u8; 16385];

@@ -1,6 +1,7 @@
 // The commands that set a buffer, the numbers or the lent lengths, and write nothing.
 use crate::input;
 use crate::input::Number;
+use crate::input::Three;
 use crate::output;
 use crate::state;
 use crate::state::LOG;
@@ -36,24 +37,12 @@ pub fn numbers(at: State) -> State {
     let Number::Is(forced) = input::next_number() else {
         return output::bad(at);
     };
-    state::with_numbers(
-        at,
-        Numbers {
-            used: used,
-            forced: forced,
-        },
-    )
+    state::with_numbers(at, Numbers { used, forced })
 }
 
-// Sets the lengths that the buffers are lent with.
+// Sets the lengths that the buffers are lent with, each at most one above the right one.
 pub fn lengths(at: State) -> State {
-    let Number::Is(work) = input::next_number() else {
-        return output::bad(at);
-    };
-    let Number::Is(store) = input::next_number() else {
-        return output::bad(at);
-    };
-    let Number::Is(log) = input::next_number() else {
+    let Three::Are(work, store, log) = input::next_three() else {
         return output::bad(at);
     };
     let lent = Lengths {

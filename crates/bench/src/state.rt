@@ -10,6 +10,7 @@ pub const PAGES: usize = 16384;
 // The right length of the log.
 pub const LOG: usize = 8192;
 
+// The lengths that the three buffers are lent with.
 pub struct Lengths {
     pub work: usize,
     pub store: usize,
@@ -31,8 +32,8 @@ pub fn start() -> State {
         log: LOG,
     };
     State {
-        numbers: numbers,
-        lent: lent,
+        numbers,
+        lent,
         on: true,
     }
 }
@@ -41,8 +42,8 @@ pub fn start() -> State {
 pub fn with_numbers(at: State, numbers: Numbers) -> State {
     let lent = at.lent;
     State {
-        numbers: numbers,
-        lent: lent,
+        numbers,
+        lent,
         on: true,
     }
 }
@@ -51,8 +52,8 @@ pub fn with_numbers(at: State, numbers: Numbers) -> State {
 pub fn with_lengths(at: State, lent: Lengths) -> State {
     let numbers = at.numbers;
     State {
-        numbers: numbers,
-        lent: lent,
+        numbers,
+        lent,
         on: true,
     }
 }
@@ -62,13 +63,13 @@ pub fn ended(at: State) -> State {
     let numbers = at.numbers;
     let lent = at.lent;
     State {
-        numbers: numbers,
-        lent: lent,
+        numbers,
+        lent,
         on: false,
     }
 }
 
-// The first n bytes of a buffer, counted: fewer where it has fewer.
+// How many bytes of the buffer are lent where n are asked for: n, or all where it has fewer.
 pub fn least(n: usize, buffer: &[u8]) -> usize
     ensures { λ r. ⌜ Counts r (now (buffer .entry)) ⌝ }
 {

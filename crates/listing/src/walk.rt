@@ -61,10 +61,10 @@ fn leaf(work: &[u8], base: u16, p: u16, seen: Seen) -> Seen {
     text::leaf(Line {
         order: seen.leaves,
         page: p,
-        base: base,
+        base,
         count: n,
-        first: first,
-        last: last,
+        first,
+        last,
         number: stamp.0,
     });
     passed(seen, n as u32)

@@ -4,8 +4,6 @@ use native.Mathlib.Omega.{arith}
 use lib.ListN.{length-take}
 use Rattle.bench.proofs.state.least.Statement.{statement}
 use Rattle.bench.proofs.state.least.Tie as tie
-use Rattle.bench.proofs.state.least.Reads as reads
-use Rattle.bench.proofs.state.least.Lts as lts
 
 returns : tie.Need-returns
 returns c = (omega arith, simp length-take (omega arith))

@@ -1,13 +1,11 @@
--- `bench::read::paint` is safe and ends. The measure is what is left of the room, whose length stays.
+-- `bench::reading::paint` is safe and ends. The measure is what is left of the room, whose length stays.
 -- Assumes nothing.
 use Prim.Native.Nat.{_≤_, _-_}
 use mathlib.Core.Path.{_≡_, refl}
 use native.Mathlib.Omega.{arith}
 use lib.ListN.{length, length-set}
-use Rattle.bench.proofs.read.paint.Statement.{statement}
-use Rattle.bench.proofs.read.paint.Tie as tie
-use Rattle.bench.proofs.read.paint.Reads as reads
-use Rattle.bench.proofs.read.paint.Lts as lts
+use Rattle.bench.proofs.reading.paint.Statement.{statement}
+use Rattle.bench.proofs.reading.paint.Tie as tie
 
 abbrev Inv-loop : tie.InvT-loop
 Inv-loop room₀ i₀ room i = length room ≡ length room₀

@@ -1,0 +1,66 @@
+// The dump, and the calls that change no buffer of the store: find and list.
+use crate::input;
+use crate::input::Number;
+use crate::input::Three;
+use crate::output;
+use crate::state;
+use crate::state::PAGES;
+use crate::state::State;
+
+// Writes the buffers at their lent lengths, and the numbers.
+pub fn dump(at: State, work: &[u8], store: &[u8], log: &[u8]) -> State {
+    let lent = at.lent;
+    let w = state::least(lent.work, work);
+    let s = state::least(lent.store, store);
+    let l = state::least(lent.log, log);
+    io::write_all(libc::STDOUT_FILENO, &work[..w]);
+    io::write_all(libc::STDOUT_FILENO, &store[..s]);
+    io::write_all(libc::STDOUT_FILENO, &log[..l]);
+    output::numbers(at);
+    at
+}
+
+// Reads the key and makes the call.
+pub fn find(at: State, work: &[u8], log: &[u8]) -> State {
+    let Number::Is(key) = input::next_number() else {
+        return output::bad(at);
+    };
+    let lent = at.lent;
+    let w = state::least(lent.work, work);
+    let l = state::least(lent.log, log);
+    let numbers = at.numbers;
+    let a = store::find(numbers, &work[..w], &log[..l], key);
+    output::found(at, a)
+}
+
+// Reads list's bounds and how many bytes of room it has: at most 16,384.
+pub fn list(at: State, work: &[u8], log: &[u8], room: &mut [u8]) -> State {
+    let Three::Are(low, high, length) = input::next_three() else {
+        return output::bad(at);
+    };
+    if length as usize > PAGES {
+        return output::bad(at);
+    }
+    let n = state::least(length as usize, room);
+    list_into(at, work, log, low, high, &mut room[..n])
+}
+
+// Makes the call into this room.
+fn list_into(at: State, work: &[u8], log: &[u8], low: u32, high: u32, room: &mut [u8]) -> State {
+    paint(room);
+    let lent = at.lent;
+    let w = state::least(lent.work, work);
+    let l = state::least(lent.log, log);
+    let numbers = at.numbers;
+    let a = store::list(numbers, &work[..w], &log[..l], low, high, room);
+    output::listed(at, a, room)
+}
+
+// Sets every byte of list's room to 170, so that it shows which bytes list leaves alone.
+fn paint(room: &mut [u8]) {
+    let mut i = 0;
+    while i < room.len() {
+        room[i] = 170;
+        i += 1;
+    }
+}

@@ -6,7 +6,7 @@
 //! product, lowest first; `listing` is the program of that name. `bench` is
 //! the service bench over these calls and `drive` compares a program with it.
 //! `chance`, `state`, `runs`, `harm`, `faults` and `vectors` make what tests
-//! run on.
+//! run on, `measures` what is measured.
 
 pub mod bench;
 pub mod bytes;
@@ -17,6 +17,7 @@ pub mod faults;
 pub mod harm;
 pub mod listing;
 pub mod log;
+pub mod measures;
 pub mod page;
 pub mod reply;
 pub mod runs;

@@ -1,10 +1,12 @@
 //! The programs: `second listing`, `second sample`, `second runs`, `second
-//! vectors`, `second bench` and `second drive`.
+//! vectors`, `second bench`, `second drive`, `second measures` and `second
+//! tidied`.
 
-use second::drive::{drive, Plan, ALL_CALLS, READING_CALLS};
-use second::state::{Call, State};
-use second::{bench, faults, listing, runs, vectors};
+use second::drive::{drive, drive_listing, sample, Plan, ALL_CALLS, READING_CALLS};
+use second::state::Call;
+use second::{bench, faults, listing, measures, runs, vectors};
 use std::io::{self, BufReader, BufWriter, Read, Write};
+use std::path::Path;
 use std::process::ExitCode;
 
 const USE: &str = "second listing            lists a store and a log read from standard input
@@ -13,7 +15,11 @@ second runs [COUNT] [SEED] makes random runs with cuts
 second vectors            prints calls with all that they leave
 second bench [--fault NAME] answers a script read from standard input
 second drive [--reading] [--calls N] [--seed S] PROGRAM [ARGS..]
-                          compares a program with the bench, script by script";
+                          compares a program with the bench, script by script
+second drive --listing PROGRAM [ARGS..]
+                          compares a program with the listing, image by image
+second measures PLACE     writes pairs of scripts that differ in one call
+second tidied [--script]  says how much a whole tidying writes";
 
 /// Runs that `second runs` makes where no count is given.
 const USUAL_RUNS: u64 = 20_000;
@@ -26,8 +32,16 @@ fn main() -> ExitCode {
         ["sample"] => write_out(&sample()),
         ["runs", ref numbers @ ..] if numbers.len() <= 2 => print_runs(numbers),
         ["vectors"] => write_out(vectors::vectors().as_bytes()),
+        ["measures", place] => {
+            measures::write_measures(Path::new(place)).map_err(|why| why.to_string())
+        }
+        ["tidied"] => write_out(format!("{}\n", measures::tidied().0).as_bytes()),
+        ["tidied", "--script"] => write_out(&measures::tidied().1),
         ["bench"] => serve(&Call::on),
         ["bench", "--fault", name] => serve_fault(name),
+        ["drive", "--listing", ref words @ ..] if !words.is_empty() => {
+            return compare_listing(words)
+        }
         ["drive", ref words @ ..] => return compare(words),
         _ => Err(USE.to_string()),
     };
@@ -61,11 +75,23 @@ fn serve_fault(name: &str) -> Result<(), String> {
 
 /// Drives a program; fails where the program does.
 fn compare(words: &[&str]) -> ExitCode {
-    match plan(words).map(|plan| drive(&plan)) {
-        Some(Ok(true)) => ExitCode::SUCCESS,
-        Some(Ok(false)) => ExitCode::FAILURE,
-        Some(Err(why)) => failed(&why.to_string()),
+    match plan(words) {
+        Some(plan) => ended(drive(&plan)),
         None => failed(USE),
+    }
+}
+
+/// The same of the listing program.
+fn compare_listing(words: &[&str]) -> ExitCode {
+    let program: Vec<String> = words.iter().map(|word| word.to_string()).collect();
+    ended(drive_listing(&program))
+}
+
+fn ended(drive: io::Result<bool>) -> ExitCode {
+    match drive {
+        Ok(true) => ExitCode::SUCCESS,
+        Ok(false) => ExitCode::FAILURE,
+        Err(why) => failed(&why.to_string()),
     }
 }
 
@@ -95,17 +121,6 @@ fn print_listing() -> Result<(), String> {
     let read = io::stdin().read_to_end(&mut image);
     read.map_err(|why| why.to_string())?;
     write_out(listing::listing(&image).as_bytes())
-}
-
-/// Store then log after row 5 of "Numbers to try", every page flushed.
-fn sample() -> Vec<u8> {
-    let mut state = State::built(&[10, 20, 30, 40, 50, 60], 2, 30);
-    state.done(Call::BeginCompact { fill: 4 });
-    state.finish();
-    state.done(Call::BeginOrder);
-    state.finish();
-    state.flush_all();
-    [state.store, state.log].concat()
 }
 
 fn print_runs(numbers: &[&str]) -> Result<(), String> {

@@ -23,7 +23,7 @@ impl Default for Script {
 
 impl Script {
     /// Sets what differs between the bench and `state`.
-    fn bring(&mut self, state: &State) {
+    pub fn bring(&mut self, state: &State) {
         let lengths = Lengths::of(state);
         if lengths != Lengths::of(self.service.state()) {
             self.put(Command::Lengths(lengths));

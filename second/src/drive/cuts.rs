@@ -62,27 +62,27 @@ pub fn scripts() -> Vec<Made> {
     all
 }
 
+/// A tree whose eight leaves are packed into a new place: 25 records.
+pub const LARGEST_UNIT: &[ShortBase] = &[(
+    7,
+    &[
+        (27, 0, &[0, 1]),
+        (20, 3, &[4, 5]),
+        (21, 6, &[6, 7]),
+        (22, 8, &[8, 9]),
+        (23, 10, &[10]),
+        (26, 11, &[11, 12]),
+        (24, 13, &[13, 14]),
+        (25, 15, &[15, u32::MAX]),
+    ],
+)];
+
 /// What begins a unit of each kind, and on which tree.
-fn units() -> [(Call, &'static [ShortBase<'static>]); 5] {
+pub fn units() -> [(Call, &'static [ShortBase<'static>]); 5] {
     let compact = Call::BeginCompact { fill: 15 };
     [
         (compact, &[(1, &[(8, 0, &[10, 20]), (9, 30, &[30])])]),
-        (
-            compact,
-            &[(
-                7,
-                &[
-                    (27, 0, &[0, 1]),
-                    (20, 3, &[4, 5]),
-                    (21, 6, &[6, 7]),
-                    (22, 8, &[8, 9]),
-                    (23, 10, &[10]),
-                    (26, 11, &[11, 12]),
-                    (24, 13, &[13, 14]),
-                    (25, 15, &[15, u32::MAX]),
-                ],
-            )],
-        ),
+        (compact, LARGEST_UNIT),
         (Call::BeginOrder, &[(2, &[(63, 0, &[10, 20])])]),
         (
             Call::BeginOrder,
@@ -156,7 +156,7 @@ pub fn tidying(seed: u64) -> Made {
 }
 
 /// A tree with 56 leaves or nearly so, thin ones or of all sizes.
-fn largest(chance: &mut Chance) -> State {
+pub fn largest(chance: &mut Chance) -> State {
     let count = LEAVES.len() - chance.within(0, 3) as usize;
     let most = [1, 3, 8, MOST_ROWS as u64][chance.within(0, 3) as usize];
     let shape = shape_with(chance, count, LEAVES.len(), most);

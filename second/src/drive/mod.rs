@@ -13,10 +13,14 @@ mod counts;
 mod cuts;
 mod damage;
 mod lengths;
+mod listed;
 mod program;
 mod reading;
 mod rows;
 mod scripts;
+
+pub use cuts::LARGEST_UNIT;
+pub use listed::{drive_listing, sample};
 
 use crate::bench::Script;
 use compare::Expected;

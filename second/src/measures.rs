@@ -1,0 +1,277 @@
+//! What is measured of a bench: pairs of scripts that differ in one call, so
+//! that the call's instructions are the difference; and how much a whole
+//! tidying writes.
+//!
+//! Two trees stand on the chip in falling order: the largest, 840 records in
+//! 56 full leaves, and the same with 400 of its records left, drawn at random.
+//! A short log has its check record alone. A log that is nearly full has whole
+//! units, so many that the next does not fit; nothing of them is flushed.
+
+use crate::bench::Script;
+use crate::bytes::{PAGE_BYTES, PAGE_COUNT};
+use crate::chance::Chance;
+use crate::drive::LARGEST_UNIT;
+use crate::log::CHECK_BYTES;
+use crate::page::{LEAVES, MOST_ROWS};
+use crate::reply;
+use crate::state::{record_bytes, shape, BaseShape, Call, LeafShape, State};
+use std::fmt;
+use std::io;
+use std::path::Path;
+
+const RECORDS: usize = 840;
+const LEFT: usize = 400;
+/// Leaves below one base page.
+const UNDER: usize = 8;
+
+/// Bytes free in a log that is nearly full of moves, where a compact unit must
+/// still fit.
+const FREE: usize = 1000;
+
+/// A call on a state.
+pub struct Measure {
+    pub name: String,
+    state: State,
+    call: Call,
+}
+
+/// Writes the two scripts of each measure, `NUMBER.before` and
+/// `NUMBER.after`, and the names, a line each, in `names`.
+pub fn write_measures(place: &Path) -> io::Result<()> {
+    let mut names = String::new();
+    for (number, measure) in measures().into_iter().enumerate() {
+        let mut before = Script::default();
+        before.bring(&measure.state);
+        let mut after = Script::default();
+        let mut state = measure.state;
+        let reply = after.call(&measure.call, &mut state).reply;
+        std::fs::write(place.join(format!("{number}.before")), before.into_bytes())?;
+        std::fs::write(place.join(format!("{number}.after")), after.into_bytes())?;
+        names.push_str(&measure.name);
+        if reply != reply::DONE {
+            names.push_str(&format!(", refused with {reply}"));
+        }
+        names.push('\n');
+    }
+    std::fs::write(place.join("names"), names)
+}
+
+/// The tree of 840 records on the chip in falling order, with so many of them
+/// left.
+fn falling(left: usize) -> Vec<BaseShape> {
+    let mut keys: Vec<u32> = (1..=RECORDS as u32).map(|key| 10 * key).collect();
+    Chance::new(1).shuffle(&mut keys);
+    keys.truncate(left);
+    keys.sort();
+    let mut shape: Vec<BaseShape> = Vec::new();
+    for (place, page) in LEAVES.rev().enumerate() {
+        let first = 10 * (MOST_ROWS * place) as u32;
+        let here = first + 10..=first + 10 * MOST_ROWS as u32;
+        let keys: Vec<u32> = keys
+            .iter()
+            .copied()
+            .filter(|key| here.contains(key))
+            .collect();
+        if keys.is_empty() {
+            continue;
+        }
+        if shape.last().is_none_or(|base| base.leaves.len() == UNDER) {
+            shape.push(BaseShape {
+                page: shape.len() as u16 + 1,
+                leaves: Vec::new(),
+            });
+        }
+        let base = shape.len() - 1;
+        let entry = if place == 0 { 0 } else { keys[0] };
+        shape[base].leaves.push(LeafShape { page, entry, keys });
+    }
+    shape
+}
+
+/// Packs where there is something to pack, else puts in order.
+fn begin_any(state: &mut State) -> u8 {
+    match (Call::BeginCompact { fill: 0 }).on(state).reply {
+        reply::NOTHING => Call::BeginOrder.on(state).reply,
+        reply => reply,
+    }
+}
+
+/// The same tree with a log nearly full; and as it was before the last unit.
+fn nearly_full(mut state: State) -> (State, State) {
+    let mut before = state.clone();
+    loop {
+        let now = state.clone();
+        if begin_any(&mut state) != reply::DONE {
+            return (state, before);
+        }
+        before = now;
+        state.finish();
+    }
+}
+
+fn measures() -> Vec<Measure> {
+    let mut all = Vec::new();
+    for records in [RECORDS, LEFT] {
+        let mut add = |name: &str, log: &str, state: &State, call: Call| {
+            all.push(Measure {
+                name: format!("{name}, {records} records, log {log}"),
+                state: state.clone(),
+                call,
+            })
+        };
+        let start = State::made(&falling(records), 1, 0, None);
+        let (full, last) = nearly_full(start.clone());
+        let keys: Vec<u32> = (1..=records as u32).map(|key| 10 * key).collect();
+        let mut unbuilt = State::zero();
+        unbuilt.bytes = record_bytes(&keys);
+        add("build", "none", &unbuilt, Call::Build { f: 15, g: 30 });
+        let compact = Call::BeginCompact { fill: 0 };
+        add("begin_compact", "short", &start, compact);
+        let mut filled = start.clone();
+        filled.fill_log(FREE);
+        add("begin_compact", "nearly full", &filled, compact);
+        for (log, state, fresh) in [("short", &start, &start), ("nearly full", &full, &last)] {
+            add("begin_order", log, fresh, Call::BeginOrder);
+            for (name, state) in steps_of(fresh) {
+                add(&name, log, &state, Call::Step);
+            }
+            add("force", log, state, Call::Force);
+            let mut forced = state.clone();
+            forced.done(Call::Force);
+            add("flush", log, &forced, Call::Flush { page: 30 });
+            forced.flush_all();
+            add(
+                "checkpoint",
+                log,
+                &forced,
+                Call::Checkpoint { clear: false },
+            );
+            add("find", log, state, Call::Find { key: 4200 });
+            let mut roomy = state.clone();
+            roomy.bytes = vec![0; 16 * RECORDS];
+            let (low, high) = (0, u32::MAX);
+            add("list", log, &roomy, Call::List { low, high });
+            add("recover", log, state, Call::Recover);
+            add(
+                "recover, a unit half done",
+                log,
+                &half_done(fresh),
+                Call::Recover,
+            );
+        }
+    }
+    all.push(Measure {
+        name: "recover, the largest unit half done, 15 records, log short".to_string(),
+        state: half_done(&State::made(&shape(LARGEST_UNIT), 1, 0, None)),
+        call: Call::Recover,
+    });
+    all
+}
+
+/// The unit that begins here before each kind of step comes first.
+fn steps_of(fresh: &State) -> Vec<(String, State)> {
+    let mut state = fresh.clone();
+    let mut kinds: Vec<(String, State)> = Vec::new();
+    begin_any(&mut state);
+    while let Some(open) = state.read_log().open {
+        let name = format!("step {}", open.remaining()[0].mark());
+        if kinds.iter().all(|(kind, _)| *kind != name) {
+            kinds.push((name, state.clone()));
+        }
+        state.done(Call::Step);
+    }
+    kinds
+}
+
+/// The unit that begins here with half of its records, nothing flushed.
+fn half_done(fresh: &State) -> State {
+    let mut whole = fresh.clone();
+    begin_any(&mut whole);
+    let steps = whole.clone().finish();
+    for _ in 0..steps / 2 {
+        whole.done(Call::Step);
+    }
+    whole
+}
+
+/// What tidying has written.
+#[derive(Default)]
+pub struct Written {
+    units: u64,
+    records: u64,
+    log: u64,
+    pages: u64,
+    checkpoints: u64,
+}
+
+/// Tidies 400 records left of 840 to the end: packs until nothing is left,
+/// then puts in order until nothing is left. Where the log is full, and at the
+/// end, it is forced, the pages that differ are flushed, and a checkpoint is
+/// made. Returns the script too, with a dump at its end.
+pub fn tidied() -> (Written, Vec<u8>) {
+    let mut tidying = Tidying {
+        state: State::made(&falling(LEFT), 1, 0, None),
+        script: Script::default(),
+        written: Written::default(),
+    };
+    for begin in [Call::BeginCompact { fill: 0 }, Call::BeginOrder] {
+        loop {
+            match tidying.call(begin) {
+                reply::DONE => tidying.finish(),
+                reply::ROOM => tidying.settle(),
+                _ => break,
+            }
+        }
+    }
+    tidying.settle();
+    tidying.script.dump();
+    (tidying.written, tidying.script.into_bytes())
+}
+
+struct Tidying {
+    state: State,
+    script: Script,
+    written: Written,
+}
+
+impl Tidying {
+    fn call(&mut self, call: Call) -> u8 {
+        let used = self.state.numbers.used;
+        let reply = self.script.call(&call, &mut self.state).reply;
+        let grown = self.state.numbers.used.saturating_sub(used);
+        self.written.log += grown as u64;
+        self.written.records += (grown > 0) as u64;
+        reply
+    }
+
+    fn finish(&mut self) {
+        self.written.units += 1;
+        while self.call(Call::Step) == reply::DONE {}
+    }
+
+    fn settle(&mut self) {
+        self.call(Call::Force);
+        for page in 0..PAGE_COUNT {
+            let at = PAGE_BYTES * page..PAGE_BYTES * (page + 1);
+            if self.state.work[at.clone()] != self.state.store[at] {
+                self.call(Call::Flush { page: page as u32 });
+                self.written.pages += 1;
+            }
+        }
+        self.call(Call::Checkpoint { clear: false });
+        self.written.checkpoints += 1;
+        self.written.log += CHECK_BYTES as u64;
+    }
+}
+
+impl fmt::Display for Written {
+    fn fmt(&self, f: &mut fmt::Formatter) -> fmt::Result {
+        let (units, records) = (self.units, self.records);
+        writeln!(f, "units {units}, records appended {records}")?;
+        let (log, checkpoints) = (self.log, self.checkpoints);
+        writeln!(f, "bytes to the log {log}, checkpoints {checkpoints}")?;
+        let pages = self.pages;
+        let bytes = pages * PAGE_BYTES as u64;
+        write!(f, "pages flushed {pages}, bytes to the store {bytes}")
+    }
+}

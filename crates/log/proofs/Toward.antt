@@ -142,6 +142,31 @@ toward-more b t = (toward-live t, toward-read t, toward-turned t, toward-rest t 
 pub toward-none : {l : List ℕ} {s : State} → Toward l s [] → live l (shown s) ≡ false
 toward-none {l} {s} t = live-is l s true (recs-none (t .fuel) s (drop (s .at) l) (t .reads))
 
+-- a turn leaves less of the log
+pub toward-less : {l : List ℕ} {s : State} {r : Rec} {rs : List Rec} → Toward l s (r ∷ rs) → length l - (shown (after s r)) .at < length l - (shown s) .at
+unfolding shown
+toward-less {l} {s} {r} t = omega (arith, toward-room t, size-least r, at-after s r)
+
+-- whether another record comes tells whether there is one
+pub record Comes (rs : List Rec) : Type 0 where
+  pub next : Rec
+  pub others : List Rec
+  pub is : rs ≡ next ∷ others
+
+comes-by : {l : List ℕ} {s : State} (rs : List Rec) → Toward l s rs → live l (shown s) ≡ true → Comes rs
+comes-by [] t h = absurd (false≢true (sym (toward-none t) ∙ h))
+comes-by (r ∷ rs) t h = record { next = r; others = rs; is = refl }
+
+pub toward-comes : {l : List ℕ} {s : State} {rs : List Rec} → Toward l s rs → live l (shown s) ≡ true → Comes rs
+toward-comes {rs = rs} t h = comes-by rs t h
+
+over-by : {l : List ℕ} {s : State} (rs : List Rec) → Toward l s rs → live l (shown s) ≡ false → rs ≡ []
+over-by [] t h = refl
+over-by (r ∷ rs) t h = absurd (false≢true (sym h ∙ toward-live t))
+
+pub toward-over : {l : List ℕ} {s : State} {rs : List Rec} → Toward l s rs → live l (shown s) ≡ false → rs ≡ []
+toward-over {rs = rs} t h = over-by rs t h
+
 -- a turn may be made
 pub toward-ready : {l : List ℕ} {s : State} {rs : List Rec} → Toward l s rs → Ready l (shown s)
 toward-ready {l} {s} t = ready l s (t .holds)

@@ -6,3 +6,4 @@ pub mod Writing
 pub mod Passed
 pub mod Lists
 pub mod Replies
+pub mod Flushes

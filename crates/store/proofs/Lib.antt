@@ -7,3 +7,5 @@ pub mod Passed
 pub mod Lists
 pub mod Replies
 pub mod Flushes
+pub mod Ending
+pub mod Replaces

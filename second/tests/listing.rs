@@ -34,6 +34,13 @@ fn the_sample_comes_out_as_the_document_prints_it() {
 }
 
 #[test]
+fn the_sample_is_the_image_that_the_proved_listing_is_run_on() {
+    let sample = second("sample", &[]).stdout;
+    let kept = concat!(env!("CARGO_MANIFEST_DIR"), "/../crates/listing/stdin");
+    assert!(sample == std::fs::read(kept).expect("the image"), "{kept}");
+}
+
+#[test]
 fn an_open_unit_is_finished_before_it_is_listed() {
     let mut state = State::built(&[10, 20, 30, 40, 50, 60], 2, 30);
     state.done(Call::BeginCompact { fill: 4 });

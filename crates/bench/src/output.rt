@@ -4,6 +4,7 @@ use crate::state::State;
 use store::Answer;
 use store::FindAnswer;
 use store::ListAnswer;
+use store::RecoverAnswer;
 
 // A command that is unknown, cut short or out of its limits: writes 255 and ends the script.
 pub fn bad(at: State) -> State {
@@ -14,6 +15,17 @@ pub fn bad(at: State) -> State {
 // Writes a call's reply.
 pub fn replied(at: State, a: Answer) -> State {
     io::write_all(libc::STDOUT_FILENO, &[a.reply]);
+    let numbers = a.numbers;
+    state::with_numbers(at, numbers)
+}
+
+// Writes recovery's reply and count.
+pub fn recovered(at: State, a: RecoverAnswer) -> State {
+    let r = a.recovered;
+    let mut bytes = [0u8; 5];
+    bytes[0] = r.reply;
+    field::put4(&mut bytes, 1, r.count);
+    io::write_all(libc::STDOUT_FILENO, &bytes);
     let numbers = a.numbers;
     state::with_numbers(at, numbers)
 }

@@ -1,7 +1,9 @@
--- Laws about the calls' definitions: refusals, and each way through a call's tests.
+-- Laws about the calls' definitions: refusals, and each way through a call's tests; and about one step of an open unit.
 pub mod Refusals
 pub mod Chain
 pub mod Builds
 pub mod Writing
 pub mod Passed
 pub mod Lists
+pub mod Stands
+pub mod Appends

@@ -5,3 +5,4 @@ pub mod Builds
 pub mod Writing
 pub mod Passed
 pub mod Lists
+pub mod Newer

@@ -6,3 +6,4 @@ pub mod Writing
 pub mod Passed
 pub mod Lists
 pub mod Newer
+pub mod Grows

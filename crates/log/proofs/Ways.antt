@@ -20,6 +20,7 @@ use Rattle.log.specs.Table.{kinds, kindAt}
 use Rattle.log.specs.Log.{largest, beginOk, readBegin}
 use Rattle.log.specs.Stand.{stands, standsIn, standsModify, standsOut, standsBegin}
 use Rattle.log.specs.Scan.{lost, begun, went, ended, stepped, turned}
+use Rattle.log.specs.Source.{sourceRows}
 use Rattle.log.specs.declared.scan.Walk.{Walk}
 use Rattle.log.specs.declared.steps.Planned.{Planned}
 use Rattle.log.specs.declared.steps.Planned.the-variants.{Out, In, Point, Close}
@@ -107,9 +108,9 @@ module _ (w : Walk) (m : List ℕ) (t q : Bool) (g : not q ≡ false) (x : Walk)
   unfolding stepped kindAt kinds
   out-on! org dest z k v e ez ek ev eq = on-pick x _ q _ (e ∙ rw (ez, ev, ek)) eq g
 
-  pub in-on! : (org dest back z r : ℕ) → x ≡ went w z 0 0 (w .moved) → z ≡ lengthOf (kindAt 3) 0 → r ≡ pick (eqb back 1) (w .rows) (w .first)
+  pub in-on! : (org dest back z r : ℕ) → x ≡ went w z 0 0 (w .moved) → z ≡ lengthOf (kindAt 3) 0 → r ≡ sourceRows w back
       → q ≡ standsIn (w .number + 1) org dest back r m → x ≡ stepped w m t (bringIn org dest back)
-  unfolding stepped kindAt kinds
+  unfolding stepped sourceRows kindAt kinds
   in-on! org dest back z r e ez er eq = on-pick x _ q _ (e ∙ rw ez) (eq ∙ rw er) g
 
   pub point-on! : (base old new z k : ℕ) (other : Bool) → x ≡ went w z 0 k (w .moved) → z ≡ lengthOf (kindAt 4) 0 → k ≡ le4 m 20

@@ -7,3 +7,4 @@ pub mod Steps
 pub mod Log
 pub mod Stand
 pub mod Scan
+pub mod Source

@@ -3,5 +3,6 @@ pub mod kind;
 pub mod opening;
 pub mod reading;
 pub mod scan;
+pub mod source;
 pub mod steps;
 pub mod writing;

@@ -11,6 +11,7 @@ ghost use Rattle.log.specs.Steps.{stepOf};
 ghost use Rattle.log.specs.Scan.{lost, begun, went, ended, stepped, turned, Ready, topped, noted, live, finished, scanned};
 use crate::kind;
 use crate::reading;
+use crate::source;
 use crate::steps;
 use crate::steps::Planned;
 use crate::writing;
@@ -146,22 +147,12 @@ fn out_turn(m: &[u8], w: Walk, org: u16, dest: u16) -> Walk
     went(w, kind::size_of(kind::LO, k), k, 0, moved)
 }
 
-// How many records the LO carried that stands `back` records before.
-fn carried(w: Walk, back: u32) -> u16
-    ensures { λ r. ⌜ r ≡ pick (eqb back 1) (w .rows) (w .first) ⌝ }
-{
-    if back == 1 {
-        return w.rows;
-    }
-    w.first
-}
-
 // The LI of a step at the front of m.
 fn in_turn(m: &[u8], w: Walk, org: u16, dest: u16, back: u32) -> Walk
     requires { ⌜ (w .number < 4294967295) × (w .at + length (now m) < 18446744073709551616) × (w .done ≤ w .at) ⌝ }
     ensures { λ r. ⌜ r ≡ stepped w (now (m .entry)) false (bringIn org dest back) ⌝ }
 {
-    let rows = carried(w, back);
+    let rows = source::source_rows(w, back);
     if !reading::is_in(m, 0, w.number + 1, org, dest, back, rows) {
         return lost();
     }
@@ -246,7 +237,7 @@ fn step_turn(m: &[u8], w: Walk, compact: bool, x: Planned) -> Walk
 }
 
 // The next record of the log.
-fn turn(l: &[u8], w: Walk) -> Walk
+pub fn turn(l: &[u8], w: Walk) -> Walk
     requires { ⌜ Ready (now l) w ⌝ }
     ensures { λ r. ⌜ r ≡ turned (now (l .entry)) w ⌝ }
 {
@@ -264,7 +255,7 @@ fn turn(l: &[u8], w: Walk) -> Walk
 }
 
 // What the check record says.
-fn top(l: &[u8]) -> Walk
+pub fn top(l: &[u8]) -> Walk
     ensures { λ r. ⌜ r ≡ topped (now (l .entry)) ⌝ }
 {
     let long = kind::size_of(kind::LC, 0);
@@ -313,7 +304,7 @@ fn noted(e: Mark, at: usize, number: u32, forced: u32) -> Mark
 }
 
 // Whether another record comes: the log's form is not broken and the byte there is not zero.
-fn live(l: &[u8], w: Walk) -> bool
+pub fn live(l: &[u8], w: Walk) -> bool
     ensures { λ r. ⌜ r ≡ live (now (l .entry)) w ⌝ }
 {
     let at = w.at;

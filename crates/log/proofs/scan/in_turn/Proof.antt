@@ -6,13 +6,14 @@ use Rattle.log.specs.Table.{kinds, kindAt}
 use mathlib.Core.Path.{_∙_}
 use Rattle.field.specs.Test.{pick}
 use Rattle.log.specs.Scan.{stepped}
+use Rattle.log.specs.Source.{sourceRows}
 use Rattle.log.proofs.Ways.{lost-pick, in-room, in-on! }
 use borrow.Author.Needs.{needs}
 use Rattle.log.proofs.scan.in_turn.Statement.{statement}
 use Rattle.log.proofs.scan.in_turn.Tie as tie
 
-carried-requires : tie.Need-carried-requires
-carried-requires c κs = search needs
+source-rows-requires : tie.Need-source-rows-requires
+source-rows-requires c κs = search needs
 
 add-is-in : tie.Need-add-is-in
 add-is-in c = search needs
@@ -24,8 +25,8 @@ lost-requires : tie.Need-lost-requires
 lost-requires c κs = search needs
 
 returns : tie.Need-returns
-unfolding stepped
-returns c = rw (← c .before .before .before .before .carried .ensures) (lost-pick _ _ _ _ (c .lost .ensures) (c .before .before .is-in .ensures) (c .before .if1 .taken))
+unfolding stepped sourceRows
+returns c = rw (← c .before .before .before .before .source-rows .ensures) (lost-pick _ _ _ _ (c .lost .ensures) (c .before .before .is-in .ensures) (c .before .if1 .taken))
 
 size-of-requires : tie.Need-size-of-requires
 size-of-requires c κs = search needs
@@ -41,7 +42,7 @@ pub in-turn-spec : {M : Type 1} → statement M
 in-turn-spec =
     tie.close
     (tie.spec
-    carried-requires
+    source-rows-requires
     add-is-in
     is-in-requires
     lost-requires

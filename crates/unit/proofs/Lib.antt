@@ -13,3 +13,4 @@ pub mod Entries
 pub mod Applied
 pub mod Repeats
 pub mod Kept
+pub mod Redone

@@ -77,7 +77,7 @@ ones-at u (suc i) nil = one-close u
 ones-at u zero (cons h p) = h
 ones-at u (suc i) (cons h p) = ones-at u i p
 
-Back : ℕ → Step → Type 0
+unfoldable pub Back : ℕ → Step → Type 0
 Back i x = (org dest back : ℕ) → x ≡ bringIn org dest back → (back ≡ 1) ⊎ ((back ≡ 3) × (i ≡ 3))
 
 back-one : (i : ℕ) (x : Step) → OneBack x → Back i x
@@ -113,7 +113,7 @@ move-ones : (p a d : ℕ) → Ones (movePlan p a d)
 unfolding movePlan
 move-ones p a d = cons (one-out a d) (cons (one-in a d) (cons (one-point p a d false) nil))
 
-plan-back : (g : Begin) (u i : ℕ) → Back i (getD (plan g) i (close u))
+pub plan-back : (g : Begin) (u i : ℕ) → Back i (getD (plan g) i (close u))
 unfolding plan
 plan-back g u i =
     let p : ℕ = getD (g .bases) 0 0 in
@@ -137,16 +137,16 @@ counted s o op m x f org dest back e =
 
 -- ---- the open unit's next step
 
-record Cons (xs : List Step) : Type 0 where
-  head : Step
-  tail : List Step
-  is : xs ≡ head ∷ tail
+pub record Cons (xs : List Step) : Type 0 where
+  pub head : Step
+  pub tail : List Step
+  pub is : xs ≡ head ∷ tail
 
-ending-cons : {u : ℕ} {xs : List Step} → Ending u xs → Cons xs
+pub ending-cons : {u : ℕ} {xs : List Step} → Ending u xs → Cons xs
 ending-cons {u} last = record { head = close u; tail = []; is = refl }
 ending-cons (more {x = x} {xs = xs} w e) = record { head = x; tail = xs; is = refl }
 
-head-drop : (n : ℕ) (p : List Step) (d y : Step) (ys : List Step) → drop n p ≡ y ∷ ys → getD p n d ≡ y
+pub head-drop : (n : ℕ) (p : List Step) (d y : Step) (ys : List Step) → drop n p ≡ y ∷ ys → getD p n d ≡ y
 head-drop zero [] d y ys e = let z : _≡_ {A = ℕ} 0 1 = cc in absurd (omega arith)
 head-drop zero (x ∷ p) d y ys e = cc
 head-drop (suc n) [] d y ys e = let z : _≡_ {A = ℕ} 0 1 = cc in absurd (omega arith)
@@ -165,7 +165,8 @@ pub record Holds (l : List ℕ) (s : State) : Type 0 where
   pub steps : (shown s) .done ≤ s .at
   pub anchored : (o : Open) → s .opened ≡ some o → Anchored l s o
 
-awaits : (s : State) (o : Open) → Sound s → s .opened ≡ some o → Awaits (s .unit) o
+-- the open unit of the state
+pub awaits : (s : State) (o : Open) → Sound s → s .opened ≡ some o → Awaits (s .unit) o
 awaits s o h e = waits-open (subst (Waits (s .unit)) e (h .waits))
 
 -- the numbers are ready for a turn
@@ -181,7 +182,7 @@ unfold-some : (o : Open) → there (some o) ≡ true
 unfolding there
 unfold-some o = refl
 
-done-some : (s : State) (o : Open) → s .opened ≡ some o → (shown s) .done ≡ length (o .did)
+pub done-some : (s : State) (o : Open) → s .opened ≡ some o → (shown s) .done ≡ length (o .did)
 unfolding shown given
 done-some s o e = rw e
 
@@ -300,7 +301,7 @@ anchored-going l s o r e a n u k p q =
     })
 
 -- the LB that is read
-begin-read : (s : State) (m : List ℕ) (r : Rec) → s .opened ≡ none → readRec s m ≡ some r → r ≡ LB (readBegin (s .unit + 1) m)
+pub begin-read : (s : State) (m : List ℕ) (r : Rec) → s .opened ≡ none → readRec s m ≡ some r → r ≡ LB (readBegin (s .unit + 1) m)
 unfolding readRec expected
 begin-read s m r e q =
     let b = bind-some (expected (s .unit) (s .opened) m) _ r q in

@@ -1,5 +1,5 @@
 -- Laws of the log: the bytes of records, what is known after them, which record may follow, what is read, what is written, where records
--- end, and logs that grow or are cut.
+-- end, logs that grow or are cut, and the way through a log once more.
 pub mod Record
 pub mod Table
 pub mod Puts
@@ -13,6 +13,7 @@ pub mod Placed
 pub mod Turned
 pub mod Ways
 pub mod Held
+pub mod Laid
 pub mod Pass
 pub mod Stand
 pub mod State
@@ -25,3 +26,4 @@ pub mod Write
 pub mod Append
 pub mod Ends
 pub mod Cut
+pub mod Toward

@@ -256,12 +256,12 @@ pass-start l f w b q = start-by l f w (record { ends = false; number = 0 }) b q 
 -- ---- a turn
 
 -- the records that are left, where the byte there is not zero, and where it is
-more-of : (g : ℕ) (s : State) (m : List ℕ) → eqb (getD m 0 0) 0 ≡ false
+pub more-of : (g : ℕ) (s : State) (m : List ℕ) → eqb (getD m 0 0) 0 ≡ false
     → readRecs (suc g) s m ≡ bind (readRec s m) (λ r. bind (readRecs g (after s r) (drop (size r) m)) (λ rs. some (r ∷ rs)))
 unfolding readRecs
 more-of g s m z = pick-false _ _ _ z
 
-end-of : (g : ℕ) (s : State) (m : List ℕ) → eqb (getD m 0 0) 0 ≡ true → readRecs (suc g) s m ≡ when (allZero m) []
+pub end-of : (g : ℕ) (s : State) (m : List ℕ) → eqb (getD m 0 0) 0 ≡ true → readRecs (suc g) s m ≡ when (allZero m) []
 unfolding readRecs
 end-of g s m z = pick-true _ _ _ z
 
@@ -280,7 +280,7 @@ walk-none : (s : State) → given {A = Rec} none lost (λ r. shown (after s r)) 
 unfolding given
 walk-none s = refl
 
-walk-some : (s : State) (r : Rec) → given (some r) lost (λ r. shown (after s r)) ≡ shown (after s r)
+pub walk-some : (s : State) (r : Rec) → given (some r) lost (λ r. shown (after s r)) ≡ shown (after s r)
 unfolding given
 walk-some s r = refl
 
@@ -294,7 +294,7 @@ recs-some : (g : ℕ) (s : State) (m : List ℕ) (r : Rec) (k : List Rec → Sca
     ≡ given (readRecs g (after s r) (drop (size r) m)) (answer lost none) (λ rs. k (r ∷ rs))
 recs-some g s m r k = bind-first r (λ r. bind (readRecs g (after s r) (drop (size r) m)) (λ rs. some (r ∷ rs))) k ∙ given-bind (readRecs g (after s r) (drop (size r) m)) (answer lost none) (λ rs. r ∷ rs) k
 
-at-after : (s : State) (r : Rec) → (after s r) .at ≡ s .at + size r
+pub at-after : (s : State) (r : Rec) → (after s r) .at ≡ s .at + size r
 unfolding after
 at-after s r = refl
 

@@ -1,5 +1,4 @@
 -- `log::source::source_at` meets its contract. Assumes nothing.
-use Prim.Native.Nat.{_+_, _<_}
 use native.Mathlib.Omega.{arith}
 use borrow.Author.Needs.{needs}
 use borrow.Author.Tests.{eq-eqb, ne-eqb}

@@ -14,3 +14,4 @@ pub mod Applied
 pub mod Repeats
 pub mod Kept
 pub mod Redone
+pub mod Rerun

@@ -1,6 +1,6 @@
 -- The record that the code reads off the log is the one that stands there, so that what it repeats is what that record does.
 -- Assumes nothing.
-use Prim.Native.Nat.{ℕ, _+_, _-_, _*_, _≤_, _<_}
+use Prim.Native.Nat.{ℕ, _+_, _-_, _*_, _≤_}
 use native.Mathlib.Nat.{add-sub-cancel-left}
 use native.Mathlib.Omega.{arith}
 use mathlib.Core.Path.{_≡_, refl, sym, ap, _∙_, subst}
@@ -14,7 +14,7 @@ use Rattle.field.proofs.Number.{le2-drop, le4-drop}
 use Rattle.page.specs.Page.{rowsOf, ascendRecords}
 use Rattle.page.proofs.Rows.{rowsOf-front}
 use Rattle.log.specs.Record.{Rec, LO, LI, LM, LE}
-use Rattle.log.specs.Plan.{takeOut, bringIn, point, close}
+use Rattle.log.specs.Plan.{takeOut, bringIn, point}
 use Rattle.log.specs.Steps.{stepOf}
 use Rattle.log.specs.Source.{sourceAt, sourceRows, sourced, recordAt}
 use Rattle.log.specs.declared.scan.Walk.{Walk}

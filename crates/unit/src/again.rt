@@ -1,19 +1,23 @@
 // Recovery's repeating: each record of the log, in order, on the pages, where its number exceeds its page's.
 ghost use mathlib.Core.Path.{_≡_};
-ghost use mathlib.Core.Bool.{Bool};
-ghost use Prim.Native.Nat.{ℕ, _+_, _*_, _≤_, _<_};
+ghost use mathlib.Core.Bool.{Bool, true};
+ghost use Prim.Native.Nat.{ℕ, _+_, _*_, _<_};
 ghost use lib.ListN.{length};
+ghost use Rattle.field.specs.Test.{there};
 ghost use Rattle.log.specs.Plan.{takeOut, bringIn, point};
+ghost use Rattle.log.specs.Log.{readLog};
 ghost use Rattle.log.specs.Steps.{stepOf};
 ghost use Rattle.log.specs.Source.{recordAt};
 ghost use Rattle.unit.specs.Next.{repeat};
 ghost use Rattle.unit.specs.Made.{Did};
-ghost use Rattle.unit.specs.Again.{OutReads, InReads, PointReads, Reads};
+ghost use Rattle.unit.specs.Again.{OutReads, InReads, PointReads, Reads, Ahead, redone, Repeated};
 use crate::apply;
 use field::LogNo;
 use field::PageNo;
+use log::scan;
 use log::scan::Walk;
 use log::source;
+use log::steps;
 use log::steps::Planned;
 
 // The LO at the walk's end.
@@ -82,4 +86,32 @@ fn step_again(work: &mut [u8], log: &[u8], w: Walk, x: Planned) -> bool
         } => point_again(work, log, w, base, old, new),
         Planned::Close { unit: _ } => true,
     }
+}
+
+// The record at the walk's end: an LB where no unit is open, else the record of the unit's next step.
+fn repeat_at(work: &mut [u8], log: &[u8], w: Walk) -> bool
+    requires { ⌜ (length (now work) ≡ 16384) × Ahead (now log) w ⌝ }
+    ensures { λ r. ⌜ Did (redone (now (log .entry)) w (now (work .entry))) (now (work .entry)) r (now (work .exit)) ⌝ }
+{
+    if !w.opened {
+        return true;
+    }
+    let begin = w.begin;
+    let x = steps::step_at(&log[begin..], w.unit, w.done);
+    step_again(work, log, w, x)
+}
+
+// All records of a log that reads. Where one cannot be repeated, reply 5, some pages may have changed.
+pub fn repeat_log(work: &mut [u8], log: &[u8]) -> bool
+    requires { ⌜ (length (now work) ≡ 16384) × (there (readLog (now log)) ≡ true) ⌝ }
+    ensures { λ r. ⌜ Repeated (now (log .entry)) (now (work .entry)) r (now (work .exit)) ⌝ }
+{
+    let mut w = scan::top(log);
+    while scan::live(log, w) {
+        if !repeat_at(work, log, w) {
+            return false;
+        }
+        w = scan::turn(log, w);
+    }
+    true
 }

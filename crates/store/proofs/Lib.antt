@@ -7,3 +7,5 @@ pub mod Passed
 pub mod Lists
 pub mod Stands
 pub mod Appends
+pub mod Newer
+pub mod Grows

@@ -5,6 +5,7 @@ mod building;
 mod known;
 mod listing;
 mod looking;
+mod recovering;
 
 pub use building::build;
 pub use known::Answer;

@@ -5,6 +5,7 @@ pub mod Builds
 pub mod Writing
 pub mod Passed
 pub mod Lists
+pub mod Replies
 pub mod Stands
 pub mod Appends
 pub mod Newer

@@ -2,12 +2,14 @@
 // table, and its contract says that all it leaves is what its definition in specs/Calls.antt leaves.
 mod appending;
 mod building;
+mod forcing;
 mod known;
 mod listing;
 mod looking;
 mod recovering;
 
 pub use building::build;
+pub use forcing::force;
 pub use known::Answer;
 pub use known::Numbers;
 pub use listing::ListAnswer;

@@ -2,3 +2,4 @@
 pub mod Calls
 pub mod Knows
 pub mod Ranges
+pub mod Appends

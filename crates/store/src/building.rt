@@ -9,15 +9,9 @@ ghost use Rattle.log.specs.Record.{encodeCheck};
 ghost use Rattle.log.specs.Write.{checkOf};
 ghost use Rattle.store.specs.Calls.{lent, left, build, newLog};
 ghost use Rattle.store.specs.Ranges.{inRange};
+use crate::known;
 use crate::known::Answer;
 use crate::known::Numbers;
-
-// An answer that leaves the numbers.
-fn kept(n: Numbers, reply: u8) -> Answer
-    ensures { λ r. ⌜ (r .reply ≡ reply) × (r .numbers .used ≡ n .used) × (r .numbers .forced ≡ n .forced) ⌝ }
-{
-    Answer { reply, numbers: n }
-}
 
 // Test 12: the two fills, and whole records.
 fn in_range(f: u32, g: u32, long: usize) -> bool
@@ -61,25 +55,25 @@ pub fn build(
         ≡ build f g (lent (n .used) (n .forced) (now (work .entry)) (now (store .entry)) (now (log .entry)) (now (records .entry))) ⌝ }
 {
     if work.len() != 16384 {
-        return kept(n, 1);
+        return known::kept(n, 1);
     }
     if store.len() != 16384 {
-        return kept(n, 1);
+        return known::kept(n, 1);
     }
     if log.len() != 8192 {
-        return kept(n, 1);
+        return known::kept(n, 1);
     }
     if !in_range(f, g, records.len()) {
-        return kept(n, 12);
+        return known::kept(n, 12);
     }
     if !tree::build::ascending(records) {
-        return kept(n, 16);
+        return known::kept(n, 16);
     }
     if 56 < tree::build::leaf_count(records, f) {
-        return kept(n, 17);
+        return known::kept(n, 17);
     }
     if 7 < tree::build::base_count(records, f, g) {
-        return kept(n, 17);
+        return known::kept(n, 17);
     }
     tree::build::build_pages(work, f, g, records);
     field::copy(store, 0, work);

@@ -10,3 +10,5 @@ pub mod Stands
 pub mod Appends
 pub mod Newer
 pub mod Grows
+pub mod Finishing
+pub mod Recovers

@@ -3,3 +3,4 @@ pub mod Calls
 pub mod Knows
 pub mod Ranges
 pub mod Appends
+pub mod Finishes

@@ -1,4 +1,4 @@
--- Laws about the calls' definitions: refusals, and each way through a call's tests; and about one step of an open unit.
+-- Laws about the calls' definitions: refusals, each way through a call's tests, one step of an open unit, and recovery's finishing.
 pub mod Refusals
 pub mod Chain
 pub mod Builds
@@ -13,3 +13,7 @@ pub mod Units
 pub mod Begins
 pub mod Stands
 pub mod Appends
+pub mod Newer
+pub mod Grows
+pub mod Finishing
+pub mod Recovers

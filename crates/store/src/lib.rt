@@ -10,6 +10,7 @@ mod fresh;
 mod known;
 mod listing;
 mod looking;
+mod recovering;
 
 pub use beginning::begin_compact;
 pub use beginning::begin_order;
@@ -24,3 +25,6 @@ pub use listing::Listed;
 pub use listing::list;
 pub use looking::FindAnswer;
 pub use looking::find;
+pub use recovering::RecoverAnswer;
+pub use recovering::Recovered;
+pub use recovering::recover;

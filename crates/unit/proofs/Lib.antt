@@ -12,3 +12,6 @@ pub mod Rooms
 pub mod Entries
 pub mod Applied
 pub mod Repeats
+pub mod Kept
+pub mod Redone
+pub mod Rerun

@@ -10,3 +10,4 @@ pub mod Stands
 pub mod Appends
 pub mod Newer
 pub mod Grows
+pub mod Steps

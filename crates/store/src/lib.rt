@@ -7,6 +7,7 @@ mod known;
 mod listing;
 mod looking;
 mod recovering;
+mod stepping;
 
 pub use building::build;
 pub use forcing::force;
@@ -17,3 +18,4 @@ pub use listing::Listed;
 pub use listing::list;
 pub use looking::FindAnswer;
 pub use looking::find;
+pub use stepping::step;

@@ -111,9 +111,9 @@ did-made none w z v t d = absurd (false≢true t)
 did-made (some x) w z v t d = ap some (sym (d .left))
 
 module _ (work : List ℕ) {l : List ℕ} {w : Walk} (s : Stands l w) (x : Step) (next : nextStep l w ≡ x) where
-  here : appendNext work l ≡ append x (s .next .others) (atEnd (s .log)) work l
+  pub next-append : appendNext work l ≡ append x (s .next .others) (atEnd (s .log)) work l
   unfolding appendNext appendFirst todoOf given
-  here = rw (s .read, s .opened, todo-is s x next)
+  next-append = rw (s .read, s .opened, todo-is s x next)
 
   -- the record, given the page that it changes
   abbrev recs : Option Rec
@@ -125,7 +125,7 @@ module _ (work : List ℕ) {l : List ℕ} {w : Walk} (s : Stands l w) (x : Step)
   pub append-none : recs ≡ none → appendNext work l ≡ stopped 5
   unfolding append
   append-none q =
-      here ∙ given-none (nextRec x (didOf (atEnd (s .log) .opened)) (pageOf (targetOf x) work)) (stopped 5) _ (rw (did-is (atEnd (s .log)) (s .unit) (s .opened)) q)
+      next-append ∙ given-none (nextRec x (didOf (atEnd (s .log) .opened)) (pageOf (targetOf x) work)) (stopped 5) _ (rw (did-is (atEnd (s .log)) (s .unit) (s .opened)) q)
 
   module _ (r : Rec) (q : recs ≡ some r) where
     with-record : appendNext work l ≡ given (apply (w .number + 1) r work) (stopped 5) (λ v.
@@ -133,7 +133,7 @@ module _ (work : List ℕ) {l : List ℕ} {w : Walk} (s : Stands l w) (x : Step)
         (need (leb (w .number + 1) most4) (stopped 7) (went (after (atEnd (s .log)) r) v (put (w .at) (encode (w .number + 1) r) l))))
     unfolding append
     with-record =
-        here
+        next-append
         ∙ given-some (nextRec x (didOf (atEnd (s .log) .opened)) (pageOf (targetOf x) work)) r (stopped 5) _ (rw (did-is (atEnd (s .log)) (s .unit) (s .opened)) q)
         ∙ rw (ends-at, ← (number-is s), ← (at-is s))
 

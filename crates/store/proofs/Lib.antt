@@ -17,3 +17,4 @@ pub mod Newer
 pub mod Grows
 pub mod Finishing
 pub mod Recovers
+pub mod Steps

@@ -1,7 +1,7 @@
 // The public calls, over slices and numbers by value. None has a `requires`: each tests what it is lent, in the order of document 01's
 // table, and its contract says that all it leaves is what its definition in specs/Calls.antt leaves.
-mod beginning;
 mod appending;
+mod beginning;
 mod building;
 mod checkpointing;
 mod flushing;
@@ -11,6 +11,7 @@ mod known;
 mod listing;
 mod looking;
 mod recovering;
+mod stepping;
 
 pub use beginning::begin_compact;
 pub use beginning::begin_order;
@@ -28,3 +29,4 @@ pub use looking::find;
 pub use recovering::RecoverAnswer;
 pub use recovering::Recovered;
 pub use recovering::recover;
+pub use stepping::step;

@@ -38,7 +38,7 @@ fn unready(opened: bool, work: &[u8]) -> u8
     0
 }
 
-// The LB of a chosen unit, with the unit's lists beside it.
+// The LB of a chosen unit. Its lists stand beside it, since of an array that is a parameter the places in use can be lent.
 fn put_lists(
     s: &mut [u8],
     at: usize,

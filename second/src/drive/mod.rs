@@ -42,7 +42,7 @@ pub struct Plan {
 
 /// Calls that are made where no number is given.
 pub const READING_CALLS: u64 = 30_000;
-pub const ALL_CALLS: u64 = 120_000;
+pub const ALL_CALLS: u64 = 200_000;
 
 /// Where scripts that failed are kept, below the current directory.
 const KEPT: &str = "target/drive";

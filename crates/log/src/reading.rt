@@ -1,6 +1,6 @@
 // Whether a record stands at an offset of the log: the record that must stand there is written into a few bytes, and these are compared.
 ghost use mathlib.Core.Path.{_≡_};
-ghost use Prim.Native.Nat.{_+_, _-_, _*_, _≤_, _<_};
+ghost use Prim.Native.Nat.{_+_, _-_, _*_, _%_, _≤_, _<_};
 ghost use lib.ListN.{length, take, drop};
 ghost use lib.Dec.{leb};
 ghost use Rattle.field.specs.Test.{pick};
@@ -14,17 +14,18 @@ use crate::kind;
 use crate::opening;
 use crate::writing;
 
-// Whether the first n bytes of b stand in l from the offset at.
+// Whether the first n bytes of b stand in l from the offset at. A record's length is a number of words of four bytes, and so is n.
 fn same_at(l: &[u8], at: usize, b: &[u8], n: usize) -> bool
-    requires { ⌜ (n ≤ length (now b)) × (at + n ≤ length (now l)) ⌝ }
+    requires { ⌜ (n % 4 ≡ 0) × (n ≤ length (now b)) × (at + n ≤ length (now l)) ⌝ }
     ensures { λ r. ⌜ r ≡ starts (take n (now (b .entry))) (drop at (now (l .entry))) ⌝ }
 {
-    let mut i = 0;
-    while i < n {
-        if l[at + i] != b[i] {
+    let words = n / 4;
+    let mut k = 0;
+    while k < words {
+        if field::get4(l, at + 4 * k) != field::get4(b, 4 * k) {
             return false;
         }
-        i += 1;
+        k += 1;
     }
     true
 }

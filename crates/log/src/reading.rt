@@ -5,7 +5,7 @@ ghost use lib.ListN.{length, take, drop};
 ghost use lib.Dec.{leb};
 ghost use Rattle.field.specs.Test.{pick};
 ghost use Rattle.field.specs.Bytes.{starts};
-ghost use Rattle.page.specs.Page.{rowsOf, ascend};
+ghost use Rattle.page.specs.Page.{rowsOf};
 ghost use Rattle.log.specs.Log.{largest};
 ghost use Rattle.log.specs.Record.{LE, encodeCheck};
 ghost use Rattle.log.specs.Write.{checkOf};
@@ -13,6 +13,7 @@ ghost use Rattle.log.specs.Stand.{stands, standsIn, standsModify, stands
 use crate::kind;
 use crate::opening;
 use crate::writing;
+use page::form;
 
 // Whether the first n bytes of b stand in l from the offset at. A record's length is a number of words of four bytes, and so is n.
 fn same_at(l: &[u8], at: usize, b: &[u8], n: usize) -> bool
@@ -91,32 +92,6 @@ pub fn is_begin(m: &[u8], n: u32, unit: u32) -> bool
     same_at(m, 0, &b, 16)
 }
 
-// Whether n records of 16 bytes from the offset start bear marks, with keys that ascend.
-fn ascending(m: &[u8], start: usize, n: u16) -> bool
-    requires { ⌜ start + 16 * n ≤ length (now m) ⌝ }
-    ensures { λ r. ⌜ r ≡ ascend 114 99 0 (rowsOf 16 n (drop start (now (m .entry)))) ⌝ }
-{
-    let mut low: u64 = 0;
-    let mut at = start;
-    let mut left = n;
-    while 0 < left {
-        if m[at] != b'r' {
-            return false;
-        }
-        if m[at + 1] != b'c' {
-            return false;
-        }
-        let key = field::get4(m, at + 2) as u64;
-        if key < low {
-            return false;
-        }
-        low = key + 1;
-        at += 16;
-        left -= 1;
-    }
-    true
-}
-
 fn larger(a: u32, b: u32) -> u32
     ensures { λ r. ⌜ r ≡ pick (leb a b) b a ⌝ }
 {
@@ -161,7 +136,7 @@ pub fn is_out(m: &[u8], n: u32, org: u16, dest: u16) -> bool
     if m.len() < kind::size_of(kind::LO, k) {
         return false;
     }
-    if !ascending(m, fixed, k) {
+    if !form::records_ascend(m, fixed, k as usize) {
         return false;
     }
     let mut b = [0u8; 28];

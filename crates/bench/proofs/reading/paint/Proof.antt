@@ -17,8 +17,11 @@ abbrev μ-loop : tie.MeasureT-loop
 loop-holds : tie.Need-loop-holds Inv-loop μ-loop
 loop-holds c = (omega arith, refl)
 
-sub-loop : tie.Need-sub-loop Inv-loop μ-loop
-sub-loop c = omega arith
+sub-less : tie.Need-sub-less Inv-loop μ-loop
+sub-less c = omega arith
+
+less-requires : tie.Need-less-requires Inv-loop μ-loop
+less-requires c κs = tt
 
 add-paint-run : tie.Need-add-paint-run Inv-loop μ-loop
 add-paint-run c = omega arith
@@ -43,26 +46,13 @@ loop-less c = omega arith
 
 loop-again : tie.Need-loop-again Inv-loop μ-loop
 loop-again c =
-    let l = c .before .before .before .before .before .loop in
-    let e = same-len-mid (l .at) (l .at + 1024 - l .at) (l .room) (c .before .before .paint-run .last .0) (c .before .before .paint-run .kept .0) in
+    let l = c .before .before .before .before .before .before .loop in
+    let n = c .before .before .before .before .less .result in
+    let e = same-len-mid (l .at) (l .at + n - l .at) (l .room) (c .before .before .paint-run .last .0) (c .before .before .paint-run .kept .0) in
     (omega (arith, e), e ∙ l .inv .1)
 
-sub-paint-run-2 : tie.Need-sub-paint-run-2 Inv-loop μ-loop
-sub-paint-run-2 c = omega arith
-
-part-paint-run-start-2 : tie.Need-part-paint-run-start-2 Inv-loop μ-loop
-part-paint-run-start-2 c = omega arith
-
-part-paint-run-end-2 : tie.Need-part-paint-run-end-2 Inv-loop μ-loop
-part-paint-run-end-2 c = omega arith
-
-paint-run-requires-2 : tie.Need-paint-run-requires-2 Inv-loop μ-loop
-paint-run-requires-2 c κs = tt
-
 same-length : tie.Need-same-length Inv-loop μ-loop
-same-length c =
-    let l = c .before .before .before .before .before .loop in
-    same-len-mid (l .at) (length (l .room) - l .at) (l .room) (c .before .before .paint-run2 .last .0) (c .before .before .paint-run2 .kept .0) ∙ l .inv .1
+same-length c = c .before .loop .inv .1
 
 returns : tie.Need-returns Inv-loop μ-loop
 returns c = tt
@@ -74,7 +64,8 @@ paint-spec =
     Inv-loop
     μ-loop
     loop-holds
-    sub-loop
+    sub-less
+    less-requires
     add-paint-run
     sub-paint-run
     part-paint-run-start
@@ -83,9 +74,5 @@ paint-spec =
     add-at
     loop-less
     loop-again
-    sub-paint-run-2
-    part-paint-run-start-2
-    part-paint-run-end-2
-    paint-run-requires-2
     same-length
     returns)

@@ -1,4 +1,6 @@
 // The dump, and the calls that change no buffer of the store: find and list.
+ghost use mathlib.Core.Path.{_≡_};
+ghost use Prim.Native.Nat.{min};
 use crate::input;
 use crate::input::Number;
 use crate::input::Three;
@@ -56,11 +58,28 @@ fn list_into(at: State, work: &[u8], log: &[u8], low: u32, high: u32, room: &mut
     output::listed(at, a, room)
 }
 
-// Sets every byte of list's room to 170, so that it shows which bytes list leaves alone.
+// Sets every byte of list's room to 170, so that it shows which bytes list leaves alone. It goes by runs of at most 1,024 bytes: a longer one
+// the C library sets by one instruction that counts once a byte, which would hide list's own.
 fn paint(room: &mut [u8]) {
+    let mut at = 0;
+    while at < room.len() {
+        let n = less(1024, room.len() - at);
+        paint_run(&mut room[at..at + n]);
+        at += n;
+    }
+}
+
+// The less of two numbers.
+fn less(a: usize, b: usize) -> usize
+    ensures { λ r. ⌜ r ≡ min a b ⌝ }
+{
+    if a < b { a } else { b }
+}
+
+fn paint_run(run: &mut [u8]) {
     let mut i = 0;
-    while i < room.len() {
-        room[i] = 170;
+    while i < run.len() {
+        run[i] = 170;
         i += 1;
     }
 }

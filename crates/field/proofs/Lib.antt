@@ -3,5 +3,6 @@ pub mod Test
 pub mod Part
 pub mod Number
 pub mod Zero
+pub mod Gather
 pub mod Same
 pub mod Byte

@@ -2,6 +2,7 @@
 ghost use mathlib.Core.Path.{_≡_};
 ghost use Prim.Native.Nat.{_+_, _*_, _≤_, _<_};
 ghost use lib.ListN.{length};
+ghost use lib.Dec.{eqb};
 ghost use Rattle.field.specs.Bytes.{part, put, zeroes, allZero, same, le2, le4, bytes2, bytes4};
 
 // The number of a page, of a log record and of a unit: none may stand where another is meant.
@@ -70,6 +71,46 @@ pub fn zeros(s: &[u8]) -> bool
     while i < s.len() {
         seen = seen | s[i];
         i += 1;
+    }
+    seen == 0
+}
+
+// Eight bytes of s, from the offset i, in one number, which is zero where they all are.
+fn word(s: &[u8], i: usize) -> u64
+    requires { ⌜ i + 8 ≤ length (now s) ⌝ }
+    ensures { λ r. ⌜ eqb r 0 ≡ allZero (part i 8 (now (s .entry))) ⌝ }
+{
+    get4(s, i) as u64 + 4294967296 * (get4(s, i + 4) as u64)
+}
+
+// 1,024 bytes of s, from the offset at, gathered in one number, which is zero where they all are. Their count is fixed, so that the
+// compiler writes the loop out.
+fn block(s: &[u8], at: usize) -> u64
+    requires { ⌜ at + 1024 ≤ length (now s) ⌝ }
+    ensures { λ r. ⌜ eqb r 0 ≡ allZero (part at 1024 (now (s .entry))) ⌝ }
+{
+    let mut seen: u64 = 0;
+    let mut k = 0;
+    while k < 128 {
+        seen = seen | word(s, at + 8 * k);
+        k += 1;
+    }
+    seen
+}
+
+// The same as zeros, for long runs: blocks from the front, and one at the end, which may lie over the last of them.
+pub fn zeros_long(s: &[u8]) -> bool
+    ensures { λ r. ⌜ r ≡ allZero (now (s .entry)) ⌝ }
+{
+    if s.len() < 1024 {
+        return zeros(s);
+    }
+    let last = s.len() - 1024;
+    let mut seen = block(s, last);
+    let mut at = 0;
+    while at < last {
+        seen = seen | block(s, at);
+        at += 1024;
     }
     seen == 0
 }

@@ -20,7 +20,7 @@ use Rattle.field.proofs.Byte.{bytes-drop}
 use Rattle.log.specs.Record.{fields}
 use Rattle.log.specs.Log.{readFields}
 
-same-cat : (a b x y : List ℕ) → length a ≡ length x → same (a ++ b) (x ++ y) ≡ both (same a x) (same b y)
+pub same-cat : (a b x y : List ℕ) → length a ≡ length x → same (a ++ b) (x ++ y) ≡ both (same a x) (same b y)
 unfolding same both
 same-cat [] b [] y e = refl
 same-cat [] b (u ∷ x) y e = let z : _≡_ {A = ℕ} 0 1 = absurd (omega (arith, e)) in absurd (omega arith)

@@ -1,11 +1,11 @@
 // Whether a record stands at an offset of the log: the record that must stand there is written into a few bytes, and these are compared.
 ghost use mathlib.Core.Path.{_≡_};
-ghost use Prim.Native.Nat.{_+_, _-_, _*_, _≤_, _<_};
+ghost use Prim.Native.Nat.{_+_, _-_, _*_, _%_, _≤_, _<_};
 ghost use lib.ListN.{length, take, drop};
 ghost use lib.Dec.{leb};
 ghost use Rattle.field.specs.Test.{pick};
 ghost use Rattle.field.specs.Bytes.{starts};
-ghost use Rattle.page.specs.Page.{rowsOf, ascend};
+ghost use Rattle.page.specs.Page.{rowsOf};
 ghost use Rattle.log.specs.Log.{largest};
 ghost use Rattle.log.specs.Record.{LE, encodeCheck};
 ghost use Rattle.log.specs.Write.{checkOf};
@@ -13,18 +13,20 @@ ghost use Rattle.log.specs.Stand.{stands, standsIn, standsModify, stands
 use crate::kind;
 use crate::opening;
 use crate::writing;
+use page::form;
 
-// Whether the first n bytes of b stand in l from the offset at.
+// Whether the first n bytes of b stand in l from the offset at. A record's length is a number of words of four bytes, and so is n.
 fn same_at(l: &[u8], at: usize, b: &[u8], n: usize) -> bool
-    requires { ⌜ (n ≤ length (now b)) × (at + n ≤ length (now l)) ⌝ }
+    requires { ⌜ (n % 4 ≡ 0) × (n ≤ length (now b)) × (at + n ≤ length (now l)) ⌝ }
     ensures { λ r. ⌜ r ≡ starts (take n (now (b .entry))) (drop at (now (l .entry))) ⌝ }
 {
-    let mut i = 0;
-    while i < n {
-        if l[at + i] != b[i] {
+    let words = n / 4;
+    let mut k = 0;
+    while k < words {
+        if field::get4(l, at + 4 * k) != field::get4(b, 4 * k) {
             return false;
         }
-        i += 1;
+        k += 1;
     }
     true
 }
@@ -90,32 +92,6 @@ pub fn is_begin(m: &[u8], n: u32, unit: u32) -> bool
     same_at(m, 0, &b, 16)
 }
 
-// Whether n records of 16 bytes from the offset start bear marks, with keys that ascend.
-fn ascending(m: &[u8], start: usize, n: u16) -> bool
-    requires { ⌜ start + 16 * n ≤ length (now m) ⌝ }
-    ensures { λ r. ⌜ r ≡ ascend 114 99 0 (rowsOf 16 n (drop start (now (m .entry)))) ⌝ }
-{
-    let mut low: u64 = 0;
-    let mut at = start;
-    let mut left = n;
-    while 0 < left {
-        if m[at] != b'r' {
-            return false;
-        }
-        if m[at + 1] != b'c' {
-            return false;
-        }
-        let key = field::get4(m, at + 2) as u64;
-        if key < low {
-            return false;
-        }
-        low = key + 1;
-        at += 16;
-        left -= 1;
-    }
-    true
-}
-
 fn larger(a: u32, b: u32) -> u32
     ensures { λ r. ⌜ r ≡ pick (leb a b) b a ⌝ }
 {
@@ -160,7 +136,7 @@ pub fn is_out(m: &[u8], n: u32, org: u16, dest: u16) -> bool
     if m.len() < kind::size_of(kind::LO, k) {
         return false;
     }
-    if !ascending(m, fixed, k) {
+    if !form::records_ascend(m, fixed, k as usize) {
         return false;
     }
     let mut b = [0u8; 28];

@@ -330,7 +330,7 @@ fn finish(l: &[u8], w: Walk, e: Mark) -> Scan
             forced: 0,
         };
     }
-    if !field::zeros(&l[at..]) {
+    if !field::zeros_long(&l[at..]) {
         return Scan {
             walk: lost(),
             ends: false,

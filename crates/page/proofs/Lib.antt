@@ -2,6 +2,7 @@
 pub mod Rows
 pub mod Order
 pub mod Turns
+pub mod Neighbours
 pub mod Tests
 pub mod Written
 pub mod Made

@@ -3,89 +3,145 @@
 use Prim.Native.Nat.{ℕ, _+_, _-_, _*_, _≤_, _<_}
 use native.Mathlib.Omega.{arith}
 use mathlib.Core.Path.{_≡_, refl, sym, ap, _∙_}
-use mathlib.Core.Bool.{Bool, true, false, not}
+use mathlib.Core.Bool.{Bool, true, false, not, false≢true}
 use mathlib.Core.List.{List, [], _∷_}
 use lib.ListN.{length, take, drop, getD}
-use lib.Dec.{leb}
-use borrow.Author.Tests.{eq-eqb, ne-eqb, le-leb, lt-leb, not-true, not-false}
+use lib.Dec.{eqb, leb}
+use borrow.Author.Tests.{eqb-true, leb-true, eq-eqb, ne-eqb, le-leb, lt-leb, not-true, not-false}
 use borrow.Rule.Slice.PartAt.{part-to-end}
 use Rattle.field.specs.Test.{both, all, pick}
-use Rattle.field.specs.Bytes.{part, allZero, le2}
-use Rattle.field.proofs.Test.{both-end, both-true, both-false}
-use Rattle.page.specs.Page.{Kind, kind, rowsOf, ascend, pointing, letter, count, spare, rows, shaped, isRoot, isBase, isLeaf, isEmpty, formed}
+use Rattle.field.specs.Bytes.{part, allZero}
+use Rattle.field.proofs.Test.{both-end, both-true, both-false, all-head, all-tail}
+use Rattle.page.specs.Page.{kind, rowsOf, ascend, pointing, letter, count, spare, rows, shaped, isRoot, isBase, isLeaf, isEmpty, formed}
+use Rattle.page.specs.Shape.{headShaped, bodyShaped}
 use Rattle.page.specs.Pages.{page, pages, allFormed}
 use Rattle.page.proofs.Turns.{rows-next}
 use Rattle.page.proofs.Pages.{lent-page}
-use Rattle.page.proofs.Made.{shaped-facts}
 
-module _ (sg sz a b least most : ℕ) (l : List ℕ) where
-  -- the test of a page of this kind from its fourth part on, where n is its count, z and r whether its spare bytes are zero and its rows in order
-  rest : ℕ → Bool → Bool → Bool
-  rest n z r = all (leb least n ∷ leb n most ∷ z ∷ r ∷ allZero (drop (16 + sz * n) l) ∷ [])
+-- ---- a page's header
 
-  pub shape-size! : (length l ≡ 256 → ⊥) → false ≡ shaped (kind sg sz a b least most) l
-  unfolding shaped all both
-  shape-size! h = rw (ne-eqb (length l) 256 h)
+module _ (sg least most : ℕ) (l : List ℕ) where
+  pub head-size! : (length l ≡ 256 → ⊥) → false ≡ headShaped sg least most l
+  unfolding headShaped all both
+  head-size! h = rw (ne-eqb (length l) 256 h)
 
   module _ (long : length l ≡ 256) where
-    pub shape-mark! : (getD l 0 0 ≡ 112 → ⊥) → false ≡ shaped (kind sg sz a b least most) l
-    unfolding shaped all both
-    shape-mark! h = rw (eq-eqb (length l) 256 long, ne-eqb (getD l 0 0) 112 h)
+    pub head-mark! : (getD l 0 0 ≡ 112 → ⊥) → false ≡ headShaped sg least most l
+    unfolding headShaped all both
+    head-mark! h = rw (eq-eqb (length l) 256 long, ne-eqb (getD l 0 0) 112 h)
 
     module _ (p : getD l 0 0 ≡ 112) where
-      pub shape-letter! : (getD l 1 0 ≡ sg → ⊥) → false ≡ shaped (kind sg sz a b least most) l
-      unfolding shaped letter all both
-      shape-letter! h = rw (eq-eqb (length l) 256 long, eq-eqb (getD l 0 0) 112 p, ne-eqb (getD l 1 0) sg h)
+      pub head-letter! : (getD l 1 0 ≡ sg → ⊥) → false ≡ headShaped sg least most l
+      unfolding headShaped letter all both
+      head-letter! h = rw (eq-eqb (length l) 256 long, eq-eqb (getD l 0 0) 112 p, ne-eqb (getD l 1 0) sg h)
 
-      module _ (q : getD l 1 0 ≡ sg) (n : ℕ) (e : n ≡ le2 l 2) where
-        so-far : shaped (kind sg sz a b least most) l ≡ rest n (allZero (part 8 8 l)) (ascend a b 0 (rowsOf sz n (drop 16 l)))
-        unfolding shaped letter count spare rows all both rest
+      module _ (q : getD l 1 0 ≡ sg) (n : ℕ) (e : n ≡ count l) where
+        so-far : headShaped sg least most l ≡ all (leb least n ∷ leb n most ∷ allZero (spare l) ∷ [])
+        unfolding headShaped letter all both
         so-far = rw (eq-eqb (length l) 256 long, eq-eqb (getD l 0 0) 112 p, eq-eqb (getD l 1 0) sg q, ← e)
 
-        pub shape-few! : n < least → false ≡ shaped (kind sg sz a b least most) l
-        unfolding all both rest
-        shape-few! h = sym (so-far ∙ rw (lt-leb least n h))
+        pub head-few! : n < least → false ≡ headShaped sg least most l
+        unfolding all both
+        head-few! h = sym (so-far ∙ rw (lt-leb least n h))
 
         module _ (f : least ≤ n) where
-          pub shape-many! : most < n → false ≡ shaped (kind sg sz a b least most) l
-          unfolding all both rest
-          shape-many! h = sym (so-far ∙ rw (le-leb least n f, lt-leb n most h))
+          pub head-many! : most < n → false ≡ headShaped sg least most l
+          unfolding all both
+          head-many! h = sym (so-far ∙ rw (le-leb least n f, lt-leb n most h))
 
-          module _ (m : n ≤ most) (z : Bool) (ez : z ≡ allZero (take 8 (drop 8 l))) where
-            pub shape-gap! : not z ≡ true → false ≡ shaped (kind sg sz a b least most) l
-            unfolding all both rest part
-            shape-gap! g = sym (so-far ∙ rw (le-leb least n f, le-leb n most m, ← ez, not-true z g))
+          pub head-spare! : n ≤ most → (z : Bool) → z ≡ allZero (take 8 (drop 8 l)) → z ≡ headShaped sg least most l
+          unfolding all both spare part
+          head-spare! m z ez = sym (so-far ∙ rw (le-leb least n f, le-leb n most m, ← ez) (both-end z))
 
-            module _ (g : not z ≡ false) (r : Bool) (er : r ≡ ascend a b 0 (rowsOf sz n (drop 16 l))) where
-              pub shape-order! : not r ≡ true → false ≡ shaped (kind sg sz a b least most) l
-              unfolding all both rest part
-              shape-order! h = sym (so-far ∙ rw (le-leb least n f, le-leb n most m, ← ez, not-false z g, ← er, not-true r h))
+-- ---- a page of a kind: its header, then its body
 
-              pub shape-rest! : (x : Bool) → not r ≡ false → x ≡ allZero (take (length l - (16 + sz * n)) (drop (16 + sz * n) l))
-                  → x ≡ shaped (kind sg sz a b least most) l
-              unfolding all both rest part
-              shape-rest! x h d =
-                  let y : x ≡ allZero (drop (16 + sz * n) l) = rw part-to-end at d in
-                  y ∙ sym (so-far ∙ rw (le-leb least n f, le-leb n most m, ← ez, not-false z g, ← er, not-false r h) (both-end (allZero (drop (16 + sz * n) l))))
+halves : (a b c d e f g h : Bool)
+    → all (a ∷ b ∷ c ∷ d ∷ e ∷ f ∷ g ∷ h ∷ []) ≡ both (all (a ∷ b ∷ c ∷ d ∷ e ∷ f ∷ [])) (both g h)
+unfolding all both
+halves false b c d e f g h = refl
+halves true false c d e f g h = refl
+halves true true false d e f g h = refl
+halves true true true false e f g h = refl
+halves true true true true false f g h = refl
+halves true true true true true false g h = refl
+halves true true true true true true g h = ap (both g) (both-end h)
 
--- ---- entries that point into from .. to, on a page of their kind
+module _ (sg sz a b least most : ℕ) (l : List ℕ) where
+  shaped-halves : shaped (kind sg sz a b least most) l ≡ both (headShaped sg least most l) (bodyShaped sz a b l)
+  unfolding shaped headShaped bodyShaped
+  shaped-halves = halves _ _ _ _ _ _ _ _
 
-module _ (k : Kind) (l : List ℕ) (z : Bool) (e : z ≡ shaped k l) where
-  pub point-shape! : (from to : ℕ) → not z ≡ true → false ≡ both (shaped k l) (pointing from to (rows 8 l))
-  point-shape! from to h = sym (both-false _ _ (sym e ∙ not-true z h))
+  module _ (h : Bool) (e : h ≡ headShaped sg least most l) where
+    pub kind-head! : not h ≡ true → false ≡ shaped (kind sg sz a b least most) l
+    kind-head! g = sym (shaped-halves ∙ both-false _ _ (sym e ∙ not-true h g))
 
-  module _ (h : not z ≡ false) where
-    pub point-whole : length l ≡ 256
-    point-whole = shaped-facts k l (sym e ∙ not-false z h) .whole
+    pub kind-body! : not h ≡ false → (x : Bool) → x ≡ bodyShaped sz a b l → x ≡ shaped (kind sg sz a b least most) l
+    kind-body! g x f = f ∙ sym (shaped-halves ∙ both-true _ _ (sym e ∙ not-false h g))
 
-    module _ (n : ℕ) (f : n ≡ count l) where
-      pub point-room : k .most ≤ 30 → 16 + 8 * n ≤ length l
-      point-room m = omega (arith, point-whole, shaped-facts k l (sym e ∙ not-false z h) .room)
+    module _ (from to : ℕ) where
+      pub points-head! : not h ≡ true → false ≡ both (shaped (kind sg sz a b least most) l) (pointing from to (rows 8 l))
+      points-head! g = sym (both-false _ _ (sym (kind-head! g)))
 
-      pub point-rest! : (from to : ℕ) (x : Bool) → x ≡ pointing from to (rowsOf 8 n (drop 16 l))
-          → x ≡ both (shaped k l) (pointing from to (rows 8 l))
-      unfolding rows
-      point-rest! from to x g = sym (both-true _ _ (sym e ∙ not-false z h) ∙ rw (← f) (sym g))
+      pub points-body! : not h ≡ false → (x : Bool) → x ≡ both (bodyShaped sz a b l) (pointing from to (rows 8 l))
+          → x ≡ both (shaped (kind sg sz a b least most) l) (pointing from to (rows 8 l))
+      points-body! g x f = f ∙ ap (λ (t : Bool). both t (pointing from to (rows 8 l))) (kind-body! g (bodyShaped sz a b l) refl)
+
+-- what a header that passes says
+module _ (sg least most : ℕ) (l : List ℕ) (h : Bool) (e : h ≡ headShaped sg least most l) (g : not h ≡ false) where
+  passed : all (eqb (length l) 256 ∷ eqb (getD l 0 0) 112 ∷ eqb (letter l) sg ∷ leb least (count l) ∷ leb (count l) most ∷ allZero (spare l) ∷ []) ≡ true
+  unfolding headShaped
+  passed = sym e ∙ not-false h g
+
+  pub head-whole : length l ≡ 256
+  head-whole = eqb-true (length l) 256 (all-head _ _ passed)
+
+  pub head-most : count l ≤ most
+  head-most = leb-true (count l) most (all-head _ _ (all-tail _ _ (all-tail _ _ (all-tail _ _ (all-tail _ _ passed)))))
+
+-- ---- a page's body: rows in order, then zeros
+
+module _ (sz a b n : ℕ) (l : List ℕ) (f : n ≡ count l) where
+  body : bodyShaped sz a b l ≡ both (ascend a b 0 (rowsOf sz n (drop 16 l))) (allZero (drop (16 + sz * n) l))
+  unfolding bodyShaped rows
+  body = rw (← f)
+
+  module _ (z : Bool) (e : z ≡ ascend a b 0 (rowsOf sz n (drop 16 l))) where
+    pub body-order! : not z ≡ true → false ≡ bodyShaped sz a b l
+    body-order! g = sym (body ∙ both-false _ _ (sym e ∙ not-true z g))
+
+    pub body-rest! : not z ≡ false → (x : Bool) → x ≡ allZero (take (length l - (16 + sz * n)) (drop (16 + sz * n) l)) → x ≡ bodyShaped sz a b l
+    body-rest! g x d =
+        let y : x ≡ allZero (drop (16 + sz * n) l) = rw part-to-end at d in
+        y ∙ sym (body ∙ both-true _ _ (sym e ∙ not-false z g))
+
+-- two tests that are made first, of three
+apart-no : (o z p : Bool) → both o p ≡ false → both (both o z) p ≡ false
+unfolding both
+apart-no true true p e = e
+apart-no true false p e = refl
+apart-no false z p e = refl
+
+apart-both : (o z p : Bool) → both o p ≡ true → both (both o z) p ≡ z
+unfolding both
+apart-both true true p e = e
+apart-both true false p e = refl
+apart-both false z p e = absurd (false≢true e)
+
+module _ (a b from to n : ℕ) (l : List ℕ) (f : n ≡ count l) (z : Bool)
+    (e : z ≡ both (ascend a b 0 (rowsOf 8 n (drop 16 l))) (pointing from to (rowsOf 8 n (drop 16 l)))) where
+  whole : both (bodyShaped 8 a b l) (pointing from to (rows 8 l))
+      ≡ both (both (ascend a b 0 (rowsOf 8 n (drop 16 l))) (allZero (drop (16 + 8 * n) l))) (pointing from to (rowsOf 8 n (drop 16 l)))
+  unfolding rows
+  whole = rw (body 8 a b n l f, ← f)
+
+  pub points-order! : not z ≡ true → false ≡ both (bodyShaped 8 a b l) (pointing from to (rows 8 l))
+  points-order! g = sym (whole ∙ apart-no _ _ _ (sym e ∙ not-true z g))
+
+  pub points-rest! : not z ≡ false → (x : Bool) → x ≡ allZero (take (length l - (16 + 8 * n)) (drop (16 + 8 * n) l))
+      → x ≡ both (bodyShaped 8 a b l) (pointing from to (rows 8 l))
+  points-rest! g x d =
+      let y : x ≡ allZero (drop (16 + 8 * n) l) = rw part-to-end at d in
+      y ∙ sym (whole ∙ apart-both _ _ _ (sym e ∙ not-false z g))
 
 -- ---- the kinds of page that may stand in a place
 

@@ -3,71 +3,22 @@ ghost use mathlib.Core.Path.{_≡_};
 ghost use Prim.Native.Nat.{_+_, _*_, _≤_, _<_};
 ghost use lib.ListN.{length, drop};
 ghost use Rattle.field.specs.Test.{both};
-ghost use Rattle.page.specs.Page.{kind, rowsOf, entries, ascend, pointing, shaped, isRoot, isBase, isLeaf, isEmpty, formed};
+ghost use Rattle.page.specs.Page.{rowsOf, count, entries, ascend, pointing, isRoot, isBase, isLeaf, isEmpty, formed};
+ghost use Rattle.page.specs.Shape.{headShaped, bodyShaped};
 ghost use Rattle.page.specs.Pages.{pages, allFormed};
 use crate::view;
 
-// A kind of page: its letter, a row's size and mark, and how many rows it has at least and at most.
-struct Kind {
-    sign: u8,
-    size: usize,
-    first: u8,
-    second: u8,
-    least: u16,
-    most: u16,
-}
+// The marks of an entry, `en`, and of a record, `rc`, as numbers of two bytes.
+const EN: u16 = 28261;
 
-// Whether n rows of sz bytes from the body's start bear the mark a b, with keys that ascend.
-fn rows_ascend(pg: &[u8], sz: usize, a: u8, b: u8, n: u16) -> bool
-    requires { ⌜ (8 ≤ sz) × (16 + sz * n ≤ length (now pg)) ⌝ }
-    ensures { λ r. ⌜ r ≡ ascend a b 0 (rowsOf sz n (drop 16 (now (pg .entry)))) ⌝ }
-{
-    let mut low: u64 = 0;
-    let mut at: usize = 16;
-    let mut left = n;
-    while 0 < left {
-        if pg[at] != a {
-            return false;
-        }
-        if pg[at + 1] != b {
-            return false;
-        }
-        let key = field::get4(pg, at + 2) as u64;
-        if key < low {
-            return false;
-        }
-        low = key + 1;
-        at += sz;
-        left -= 1;
-    }
-    true
-}
+const RC: u16 = 25458;
 
-// Whether n entries from the body's start point to pages from .. to.
-fn pointing(pg: &[u8], n: u16, from: u16, to: u16) -> bool
-    requires { ⌜ 16 + 8 * n ≤ length (now pg) ⌝ }
-    ensures { λ r. ⌜ r ≡ pointing from to (rowsOf 8 n (drop 16 (now (pg .entry)))) ⌝ }
-{
-    let mut at: usize = 16;
-    let mut left = n;
-    while 0 < left {
-        let p = field::get2(pg, at + 6);
-        if p < from {
-            return false;
-        }
-        if to < p {
-            return false;
-        }
-        at += 8;
-        left -= 1;
-    }
-    true
-}
+// The least number of four bytes whose upper two are an entry's mark.
+const MARKED: u32 = 1852112896;
 
-// Whether a page is of the kind k: its header, its rows' marks and order, zeros after them.
-fn shaped(pg: &[u8], k: Kind) -> bool
-    requires { ⌜ (8 ≤ k .size) × (k .size * k .most ≤ 240) ⌝ }
-    ensures { λ r. ⌜ r ≡ shaped (kind (k .sign) (k .size) (k .first) (k .second) (k .least) (k .most)) (now (pg .entry)) ⌝ }
+// Whether a page's header is that of its kind: 256 bytes, its letter, how many rows it has at least and at most, zeros in the spare bytes.
+fn head_ok(pg: &[u8], sign: u8, least: u16, most: u16) -> bool
+    ensures { λ r. ⌜ r ≡ headShaped sign least most (now (pg .entry)) ⌝ }
 {
     if pg.len() != 256 {
         return false;
@@ -75,97 +26,138 @@ fn shaped(pg: &[u8], k: Kind) -> bool
     if pg[0] != b'p' {
         return false;
     }
-    if pg[1] != k.sign {
-        return false;
-    }
-    let n = field::get2(pg, 2);
-    if n < k.least {
-        return false;
-    }
-    if k.most < n {
-        return false;
-    }
-    if !field::zeros(&pg[8..16]) {
-        return false;
-    }
-    let sz = k.size;
-    if !rows_ascend(pg, sz, k.first, k.second, n) {
-        return false;
-    }
-    let end = 16 + sz * (n as usize);
-    field::zeros(&pg[end..])
-}
-
-// Whether a page is of the kind k, of entries, and its entries point to pages from .. to.
-fn shaped_pointing(pg: &[u8], k: Kind, from: u16, to: u16) -> bool
-    requires { ⌜ (8 ≤ k .size) × (k .size * k .most ≤ 240) × (k .most ≤ 30) ⌝ }
-    ensures { λ r. ⌜ r ≡ both (shaped (kind (k .sign) (k .size) (k .first) (k .second) (k .least) (k .most)) (now (pg .entry))) (pointing from to (entries (now (pg .entry)))) ⌝ }
-{
-    if !shaped(pg, k) {
+    if pg[1] != sign {
         return false;
     }
     let n = view::count(pg);
-    pointing(pg, n, from, to)
+    if n < least {
+        return false;
+    }
+    if most < n {
+        return false;
+    }
+    field::zeros(&pg[8..16])
+}
+
+// Whether n entries from the body's start bear their mark, have keys that ascend and point to pages from .. to. An entry's page and the
+// next one's mark stand side by side and are tested as one number; no test ends the loop early, so that several entries are tested at once.
+fn entries_ascend(pg: &[u8], n: usize, from: u32, to: u32) -> bool
+    requires { ⌜ (16 + 8 * n ≤ length (now pg)) × (to < 65536) × (from ≤ to) ⌝ }
+    ensures { λ r. ⌜ r ≡ both (ascend 101 110 0 (rowsOf 8 n (drop 16 (now (pg .entry))))) (pointing from to (rowsOf 8 n (drop 16 (now (pg .entry))))) ⌝ }
+{
+    if n == 0 {
+        return true;
+    }
+    let low = MARKED + from;
+    let high = MARKED + to;
+    if field::get2(pg, 16) != EN {
+        return false;
+    }
+    let last = n - 1;
+    let mut ok = true;
+    let mut i = 0;
+    while i < last {
+        let x = field::get4(pg, 8 * i + 22);
+        ok = ok
+            & (low <= x)
+            & (x <= high)
+            & (field::get4(pg, 8 * i + 18) < field::get4(pg, 8 * i + 26));
+        i += 1;
+    }
+    let p = field::get2(pg, 8 * last + 22) as u32;
+    ok & (from <= p) & (p <= to)
+}
+
+// Whether n records of 16 bytes from the offset start bear their mark, with keys that ascend.
+pub fn records_ascend(s: &[u8], start: usize, n: usize) -> bool
+    requires { ⌜ start + 16 * n ≤ length (now s) ⌝ }
+    ensures { λ r. ⌜ r ≡ ascend 114 99 0 (rowsOf 16 n (drop start (now (s .entry)))) ⌝ }
+{
+    if n == 0 {
+        return true;
+    }
+    if field::get2(s, start) != RC {
+        return false;
+    }
+    let last = n - 1;
+    let mut i = 0;
+    while i < last {
+        let at = start + 16 * i;
+        if field::get2(s, at + 16) != RC {
+            return false;
+        }
+        if field::get4(s, at + 18) <= field::get4(s, at + 2) {
+            return false;
+        }
+        i += 1;
+    }
+    true
+}
+
+// Whether a page's entries are in order, point to pages from .. to and have zeros behind them.
+fn entries_ok(pg: &[u8], from: u32, to: u32) -> bool
+    requires { ⌜ (length (now pg) ≡ 256) × (count (now pg) ≤ 30) × (to < 65536) × (from ≤ to) ⌝ }
+    ensures { λ r. ⌜ r ≡ both (bodyShaped 8 101 110 (now (pg .entry))) (pointing from to (entries (now (pg .entry)))) ⌝ }
+{
+    let n = view::count(pg) as usize;
+    if !entries_ascend(pg, n, from, to) {
+        return false;
+    }
+    let end = 16 + 8 * n;
+    field::zeros(&pg[end..])
+}
+
+// Whether a page's records are in order and have zeros behind them.
+fn records_ok(pg: &[u8]) -> bool
+    requires { ⌜ (length (now pg) ≡ 256) × (count (now pg) ≤ 15) ⌝ }
+    ensures { λ r. ⌜ r ≡ bodyShaped 16 114 99 (now (pg .entry)) ⌝ }
+{
+    let n = view::count(pg) as usize;
+    if !records_ascend(pg, 16, n) {
+        return false;
+    }
+    let end = 16 + 16 * n;
+    field::zeros(&pg[end..])
 }
 
 // Whether a page is a root page.
 pub fn is_root(pg: &[u8]) -> bool
     ensures { λ r. ⌜ r ≡ isRoot (now (pg .entry)) ⌝ }
 {
-    let root = Kind {
-        sign: b'r',
-        size: 8,
-        first: b'e',
-        second: b'n',
-        least: 0,
-        most: 30,
-    };
-    shaped_pointing(pg, root, 1, 7)
+    if !head_ok(pg, b'r', 0, 30) {
+        return false;
+    }
+    entries_ok(pg, 1, 7)
 }
 
 // Whether a page is a base page.
 pub fn is_base(pg: &[u8]) -> bool
     ensures { λ r. ⌜ r ≡ isBase (now (pg .entry)) ⌝ }
 {
-    let base = Kind {
-        sign: b'b',
-        size: 8,
-        first: b'e',
-        second: b'n',
-        least: 1,
-        most: 30,
-    };
-    shaped_pointing(pg, base, 8, 63)
+    if !head_ok(pg, b'b', 1, 30) {
+        return false;
+    }
+    entries_ok(pg, 8, 63)
 }
 
 // Whether a page is a leaf page.
 pub fn is_leaf(pg: &[u8]) -> bool
     ensures { λ r. ⌜ r ≡ isLeaf (now (pg .entry)) ⌝ }
 {
-    let leaf = Kind {
-        sign: b'l',
-        size: 16,
-        first: b'r',
-        second: b'c',
-        least: 1,
-        most: 15,
-    };
-    shaped(pg, leaf)
+    if !head_ok(pg, b'l', 1, 15) {
+        return false;
+    }
+    records_ok(pg)
 }
 
 // Whether a page is an empty page.
 pub fn is_empty(pg: &[u8]) -> bool
     ensures { λ r. ⌜ r ≡ isEmpty (now (pg .entry)) ⌝ }
 {
-    let empty = Kind {
-        sign: b'e',
-        size: 16,
-        first: b'r',
-        second: b'c',
-        least: 0,
-        most: 0,
-    };
-    shaped(pg, empty)
+    if !head_ok(pg, b'e', 0, 0) {
+        return false;
+    }
+    records_ok(pg)
 }
 
 // Whether a page is in form as page p: page 0 is the root, 1 to 7 are base pages, 8 to 63 leaf pages, and any but the root may be empty.

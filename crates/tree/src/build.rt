@@ -9,6 +9,7 @@ ghost use Rattle.page.specs.Page.{base, leaf, rowsOf, ascendRecords, made};
 ghost use Rattle.tree.specs.Layout.{fresh, leafGroups, baseGroups, layout};
 ghost use Rattle.tree.specs.Pieces.{pieces, leafKey, entryRun, Leaves, Buildable, nth, layoutPage};
 use field::PageNo;
+use page::form;
 use page::image;
 
 // How many groups of k there are of n.
@@ -40,25 +41,7 @@ pub fn base_count(records: &[u8], f: u32, g: u32) -> usize
 pub fn ascending(records: &[u8]) -> bool
     ensures { λ r. ⌜ r ≡ ascendRecords 0 (rowsOf 16 (length (now (records .entry)) / 16) (now (records .entry))) ⌝ }
 {
-    let mut low: u64 = 0;
-    let mut at: usize = 0;
-    let mut left = records.len() / 16;
-    while 0 < left {
-        if records[at] != b'r' {
-            return false;
-        }
-        if records[at + 1] != b'c' {
-            return false;
-        }
-        let key = field::get4(records, at + 2) as u64;
-        if key < low {
-            return false;
-        }
-        low = key + 1;
-        at += 16;
-        left -= 1;
-    }
-    true
+    form::records_ascend(records, 0, records.len() / 16)
 }
 
 // The less of two numbers.

@@ -4,6 +4,7 @@ ghost use mathlib.Core.List.{[], _∷_};
 ghost use Prim.Native.Nat.{_+_, _*_, _/_, _≤_, _<_};
 ghost use lib.ListN.{length, drop};
 ghost use Rattle.field.specs.Test.{pick};
+ghost use Rattle.field.specs.Bytes.{put};
 ghost use Rattle.page.specs.Page.{rowsOf};
 ghost use Rattle.tree.specs.Answer.{between, inBounds, roomFor, written, countWritten, moreRemain};
 ghost use Rattle.tree.specs.Reader.{Sound, writeAt, countAt, moreAt};
@@ -20,6 +21,16 @@ struct Run {
 pub struct Listed {
     pub count: u32,
     pub more: bool,
+}
+
+// Writes a record over out behind n others. It goes by an array: then all its bytes are read before one is written, in one move each way.
+fn put_record(rc: &[u8], out: &mut [u8], n: usize)
+    requires { ⌜ (length (now rc) ≡ 16) × (16 * n + 16 ≤ length (now out)) ⌝ }
+    ensures { λ _. ⌜ now (out .exit) ≡ put (16 * n) (now (rc .entry)) (now (out .entry)) ⌝ }
+{
+    let mut record = [0u8; 16];
+    field::copy(&mut record, 0, rc);
+    field::copy(out, 16 * n, &record);
 }
 
 // Writes a record behind n others, if its key is in bounds and it fits.
@@ -46,7 +57,7 @@ fn list_one(rc: &[u8], low: u32, high: u32, out: &mut [u8], n: usize) -> Run
             more: true,
         };
     }
-    field::copy(out, 16 * n, rc);
+    put_record(rc, out, n);
     Run {
         count: n + 1,
         more: false,

@@ -31,9 +31,12 @@ size-of-requires-2 c κs = search needs
 returns-4 : tie.Need-returns-4
 returns-4 c = search out-long!
 
-ascending-requires : tie.Need-ascending-requires
+cast-records-ascend : tie.Need-cast-records-ascend
+cast-records-ascend c = search needs
+
+records-ascend-requires : tie.Need-records-ascend-requires
 unfolding lengthOf kindAt kinds
-ascending-requires c κs = omega arith
+records-ascend-requires c κs = omega arith
 
 returns-5 : tie.Need-returns-5
 returns-5 c = search out-rows!
@@ -53,7 +56,7 @@ same-at-requires c κs = omega arith
 
 returns-6 : tie.Need-returns-6
 unfolding lengthOf kindAt kinds
-returns-6 c = let a = c .before .before .before .before .before .before .before .before .before .before .before .before .before .before .before in let k : a .args .n ≤ 4294967295 = omega arith in let h : 20 + 16 * c .before .before .before .before .before .before .before .before .before .before .before .get2 .result ≤ length (a .args .m .now) = omega arith in search (out-whole! (a .args .m .now) (a .args .n) (a .args .org) (a .args .dest) (c .before .before .before .before .before .before .before .before .before .before .before .get2 .result) (c .before .before .before .before .before .before .before .before .before .before .before .get2 .ensures) (c .before .before .before .before .before .before .before .before .before .before .before .before .before .size-of .result) (c .before .before .before .before .before .before .before .before .before .before .before .before .before .size-of .ensures) (c .before .before .before .before .before .before .ascending .result) (c .before .before .before .before .before .before .ascending .ensures) k h)
+returns-6 c = let a = c .before .before .before .before .before .before .before .before .before .before .before .before .before .before .before in let k : a .args .n ≤ 4294967295 = omega arith in let h : 20 + 16 * c .before .before .before .before .before .before .before .before .before .before .before .get2 .result ≤ length (a .args .m .now) = omega arith in search (out-whole! (a .args .m .now) (a .args .n) (a .args .org) (a .args .dest) (c .before .before .before .before .before .before .before .before .before .before .before .get2 .result) (c .before .before .before .before .before .before .before .before .before .before .before .get2 .ensures) (c .before .before .before .before .before .before .before .before .before .before .before .before .before .size-of .result) (c .before .before .before .before .before .before .before .before .before .before .before .before .before .size-of .ensures) (c .before .before .before .before .before .before .records-ascend .result) (c .before .before .before .before .before .before .records-ascend .ensures) k h)
 
 pub is-out-spec : {M : Type 1} → statement M
 is-out-spec =
@@ -66,7 +69,8 @@ is-out-spec =
     returns-3
     size-of-requires-2
     returns-4
-    ascending-requires
+    cast-records-ascend
+    records-ascend-requires
     returns-5
     slice-aggregate-put-paged
     put-paged-requires

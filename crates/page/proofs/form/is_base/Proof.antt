@@ -1,15 +1,28 @@
 -- `page::form::is_base` meets its contract: entries, at least one, to pages 8 to 63. Assumes nothing.
+use native.Mathlib.Omega.{arith}
 use Rattle.page.specs.Page.{isBase}
+use Rattle.page.proofs.Tests.{head-whole, head-most, points-head!, points-body! }
 use borrow.Author.Needs.{needs}
 use Rattle.page.proofs.form.is_base.Statement.{statement}
 use Rattle.page.proofs.form.is_base.Tie as tie
 
-shaped-pointing-requires : tie.Need-shaped-pointing-requires
-shaped-pointing-requires c κs = search needs
+head-ok-requires : tie.Need-head-ok-requires
+head-ok-requires c κs = search needs
 
 returns : tie.Need-returns
 unfolding isBase
-returns c = c .shaped-pointing .ensures
+returns c = let a = c .before .before .before in points-head! 98 8 101 110 1 30 (a .args .pg .now) _ (c .before .head-ok .ensures) 8 63 (c .if1 .taken)
+
+entries-ok-requires : tie.Need-entries-ok-requires
+entries-ok-requires c κs =
+    let a = c .before .before .before in
+    (head-whole 98 1 30 (a .args .pg .now) _ (c .before .head-ok .ensures) (c .if1 .left), head-most 98 1 30 (a .args .pg .now) _ (c .before .head-ok .ensures) (c .if1 .left), omega arith, omega arith)
+
+returns-2 : tie.Need-returns-2
+unfolding isBase
+returns-2 c =
+    let a = c .before .before .before .before in
+    points-body! 98 8 101 110 1 30 (a .args .pg .now) _ (c .before .before .head-ok .ensures) 8 63 (c .before .if1 .left) _ (c .entries-ok .ensures)
 
 pub is-base-spec : {M : Type 1} → statement M
-is-base-spec = tie.close (tie.spec shaped-pointing-requires returns)
+is-base-spec = tie.close (tie.spec head-ok-requires returns entries-ok-requires returns-2)

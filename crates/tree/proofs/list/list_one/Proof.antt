@@ -26,14 +26,11 @@ returns-3 c =
     let g = c .before .before .before .get4 in
     one-full (a .args .rc .now) (a .args .low) (a .args .high) (a .args .out .now) (a .args .n) (g .result) (g .ensures) (c .before .before .if1 .left) (c .before .if2 .left) (a .pre .1) (c .if3 .taken)
 
-mul-copy : tie.Need-mul-copy
-mul-copy c = search needs
+put-record-requires : tie.Need-put-record-requires
+put-record-requires c κs = search needs
 
-copy-requires : tie.Need-copy-requires
-copy-requires c κs = search needs
-
-add-t9 : tie.Need-add-t9
-add-t9 c = search needs
+add-t8 : tie.Need-add-t8
+add-t8 c = search needs
 
 same-length : tie.Need-same-length
 same-length c = search needs
@@ -43,7 +40,7 @@ returns-4 c =
     let a = c .before .before .before .before .before .before .before .before .before .before in
     let g = c .before .before .before .before .before .before .before .get4 in
     let o = one-written (a .args .rc .now) (a .args .low) (a .args .high) (a .args .out .now) (a .args .n) (g .result) (g .ensures) (c .before .before .before .before .before .before .if1 .left) (c .before .before .before .before .before .if2 .left) (c .before .before .before .before .if3 .left) in
-    (c .before .before .copy .ensures ∙ o .0, o .1, o .2)
+    (c .before .before .put-record .ensures ∙ o .0, o .1, o .2)
 
 pub list-one-spec : {M : Type 1} → statement M
 list-one-spec =
@@ -53,8 +50,7 @@ list-one-spec =
     returns
     returns-2
     returns-3
-    mul-copy
-    copy-requires
-    add-t9
+    put-record-requires
+    add-t8
     same-length
     returns-4)

@@ -5,3 +5,7 @@ pub mod Builds
 pub mod Writing
 pub mod Passed
 pub mod Lists
+pub mod Replies
+pub mod Flushes
+pub mod Ending
+pub mod Replaces

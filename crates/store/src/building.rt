@@ -1,23 +1,14 @@
 // Build.
 ghost use mathlib.Core.Path.{_≡_};
-ghost use mathlib.Core.Bool.{false};
 ghost use mathlib.Core.List.{[]};
-ghost use Prim.Native.Nat.{_%_, _≤_};
-ghost use lib.ListN.{length};
-ghost use Rattle.field.specs.Bytes.{put, zeroes};
-ghost use Rattle.log.specs.Record.{encodeCheck};
-ghost use Rattle.log.specs.Write.{checkOf};
-ghost use Rattle.store.specs.Calls.{lent, left, build, newLog};
+ghost use Rattle.store.specs.Calls.{lent, left, build};
 ghost use Rattle.store.specs.Ranges.{inRange};
+use crate::fresh;
+use crate::known;
 use crate::known::Answer;
 use crate::known::Numbers;
-
-// An answer that leaves the numbers.
-fn kept(n: Numbers, reply: u8) -> Answer
-    ensures { λ r. ⌜ (r .reply ≡ reply) × (r .numbers .used ≡ n .used) × (r .numbers .forced ≡ n .forced) ⌝ }
-{
-    Answer { reply, numbers: n }
-}
+use field::LogNo;
+use field::UnitNo;
 
 // Test 12: the two fills, and whole records.
 fn in_range(f: u32, g: u32, long: usize) -> bool
@@ -38,15 +29,6 @@ fn in_range(f: u32, g: u32, long: usize) -> bool
     long % 16 == 0
 }
 
-// A new log: the check record number 1, unit 0, LK absent, then zeros.
-fn new_log(log: &mut [u8])
-    requires { ⌜ length (now log) ≡ 8192 ⌝ }
-    ensures { λ _. ⌜ now (log .exit) ≡ newLog (checkOf 1 0 false 0) ⌝ }
-{
-    field::clear(log, 0, 8192);
-    log::writing::put_check(log, 1, 0, false, 0);
-}
-
 // A tree of these records, in work and store alike, and a new log.
 pub fn build(
     n: Numbers,
@@ -61,29 +43,29 @@ pub fn build(
         ≡ build f g (lent (n .used) (n .forced) (now (work .entry)) (now (store .entry)) (now (log .entry)) (now (records .entry))) ⌝ }
 {
     if work.len() != 16384 {
-        return kept(n, 1);
+        return known::kept(n, 1);
     }
     if store.len() != 16384 {
-        return kept(n, 1);
+        return known::kept(n, 1);
     }
     if log.len() != 8192 {
-        return kept(n, 1);
+        return known::kept(n, 1);
     }
     if !in_range(f, g, records.len()) {
-        return kept(n, 12);
+        return known::kept(n, 12);
     }
     if !tree::build::ascending(records) {
-        return kept(n, 16);
+        return known::kept(n, 16);
     }
     if 56 < tree::build::leaf_count(records, f) {
-        return kept(n, 17);
+        return known::kept(n, 17);
     }
     if 7 < tree::build::base_count(records, f, g) {
-        return kept(n, 17);
+        return known::kept(n, 17);
     }
     tree::build::build_pages(work, f, g, records);
     field::copy(store, 0, work);
-    new_log(log);
+    fresh::new_log(log, LogNo(1), UnitNo(0), false, 0);
     Answer {
         reply: 0,
         numbers: Numbers {

@@ -15,6 +15,13 @@ pub struct Answer {
     pub numbers: Numbers,
 }
 
+// An answer that leaves the numbers.
+pub fn kept(n: Numbers, reply: u8) -> Answer
+    ensures { λ r. ⌜ (r .reply ≡ reply) × (r .numbers .used ≡ n .used) × (r .numbers .forced ≡ n .forced) ⌝ }
+{
+    Answer { reply, numbers: n }
+}
+
 // Test 2: the log in form, used at its end, forced at a record's end.
 pub fn knows(s: Scan, used: u32) -> bool
     ensures { λ r. ⌜ r ≡ knows s used ⌝ }

@@ -1,11 +1,18 @@
 // The public calls, over slices and numbers by value. None has a `requires`: each tests what it is lent, in the order of document 01's
 // table, and its contract says that all it leaves is what its definition in specs/Calls.antt leaves.
 mod building;
+mod checkpointing;
+mod flushing;
+mod forcing;
+mod fresh;
 mod known;
 mod listing;
 mod looking;
 
 pub use building::build;
+pub use checkpointing::checkpoint;
+pub use flushing::flush;
+pub use forcing::force;
 pub use known::Answer;
 pub use known::Numbers;
 pub use listing::ListAnswer;

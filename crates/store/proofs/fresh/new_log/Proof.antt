@@ -1,8 +1,8 @@
--- `store::building::new_log` meets its contract: zeros, then the check record over them. Assumes nothing.
+-- `store::fresh::new_log` meets its contract: zeros, then the check record over them. Assumes nothing.
 use Rattle.store.proofs.Builds.{new-log! }
 use borrow.Author.Needs.{needs}
-use Rattle.store.proofs.building.new_log.Statement.{statement}
-use Rattle.store.proofs.building.new_log.Tie as tie
+use Rattle.store.proofs.fresh.new_log.Statement.{statement}
+use Rattle.store.proofs.fresh.new_log.Tie as tie
 
 clear-requires : tie.Need-clear-requires
 clear-requires c κs = search needs

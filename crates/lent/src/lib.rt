@@ -1,0 +1,18 @@
+// The public calls as document 01 has them: bytes used and bytes forced are one small record that each call is lent and updates. A call hands
+// its core in `store` a copy of that record, puts what comes back in its place and returns the rest; so its contract is the core's, with the
+// record at entry and at exit for the numbers. These are also the names that C has.
+ghost use mathlib.Core.Path.{_≡_};
+ghost use mathlib.Core.List.{[]};
+ghost use Rattle.store.specs.Calls.{lent, left, force};
+use store::Numbers;
+
+// All bytes used are forced.
+#[no_mangle]
+pub extern "C" fn uhtlight_force(n: &mut Numbers, log: &[u8]) -> u8
+    ensures forced { λ r. ⌜ left r [] (lent (now (n .exit) .used) (now (n .exit) .forced) [] [] (now (log .entry)) [])
+        ≡ force (lent (now (n .entry) .used) (now (n .entry) .forced) [] [] (now (log .entry)) []) ⌝ }
+{
+    let a = store::force(*n, log);
+    *n = a.numbers;
+    a.reply
+}

@@ -3,7 +3,8 @@
 // record at entry and at exit for the numbers. These are also the names that C has.
 ghost use mathlib.Core.Path.{_≡_};
 ghost use mathlib.Core.List.{[]};
-ghost use Rattle.store.specs.Calls.{lent, left, force};
+ghost use Rattle.store.specs.Calls.{lent, left, flush, force};
+use field::PageNo;
 use store::Numbers;
 
 // All bytes used are forced.
@@ -13,6 +14,23 @@ pub extern "C" fn uhtlight_force(n: &mut Numbers, log: &[u8]) -> u8
         ≡ force (lent (now (n .entry) .used) (now (n .entry) .forced) [] [] (now (log .entry)) []) ⌝ }
 {
     let a = store::force(*n, log);
+    *n = a.numbers;
+    a.reply
+}
+
+// One work page is written to the store, where its last change is forced.
+#[no_mangle]
+pub extern "C" fn uhtlight_flush(
+    n: &mut Numbers,
+    work: &[u8],
+    store: &mut [u8],
+    log: &[u8],
+    p: PageNo,
+) -> u8
+    ensures flushed { λ r. ⌜ left r [] (lent (now (n .exit) .used) (now (n .exit) .forced) (now (work .entry)) (now (store .exit)) (now (log .entry)) [])
+        ≡ flush (p .0) (lent (now (n .entry) .used) (now (n .entry) .forced) (now (work .entry)) (now (store .entry)) (now (log .entry)) []) ⌝ }
+{
+    let a = store::flush(*n, work, store, log, p);
     *n = a.numbers;
     a.reply
 }

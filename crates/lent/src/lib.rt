@@ -3,20 +3,9 @@
 // record at entry and at exit for the numbers. These are also the names that C has.
 ghost use mathlib.Core.Path.{_≡_};
 ghost use mathlib.Core.List.{[]};
-ghost use Rattle.store.specs.Calls.{lent, left, flush, force};
+ghost use Rattle.store.specs.Calls.{lent, left, flush, force, checkpoint};
 use field::PageNo;
 use store::Numbers;
-
-// All bytes used are forced.
-#[no_mangle]
-pub extern "C" fn uhtlight_force(n: &mut Numbers, log: &[u8]) -> u8
-    ensures forced { λ r. ⌜ left r [] (lent (now (n .exit) .used) (now (n .exit) .forced) [] [] (now (log .entry)) [])
-        ≡ force (lent (now (n .entry) .used) (now (n .entry) .forced) [] [] (now (log .entry)) []) ⌝ }
-{
-    let a = store::force(*n, log);
-    *n = a.numbers;
-    a.reply
-}
 
 // One work page is written to the store, where its last change is forced.
 #[no_mangle]
@@ -31,6 +20,34 @@ pub extern "C" fn uhtlight_flush(
         ≡ flush (p .0) (lent (now (n .entry) .used) (now (n .entry) .forced) (now (work .entry)) (now (store .entry)) (now (log .entry)) []) ⌝ }
 {
     let a = store::flush(*n, work, store, log, p);
+    *n = a.numbers;
+    a.reply
+}
+
+// All bytes used are forced.
+#[no_mangle]
+pub extern "C" fn uhtlight_force(n: &mut Numbers, log: &[u8]) -> u8
+    ensures forced { λ r. ⌜ left r [] (lent (now (n .exit) .used) (now (n .exit) .forced) [] [] (now (log .entry)) [])
+        ≡ force (lent (now (n .entry) .used) (now (n .entry) .forced) [] [] (now (log .entry)) []) ⌝ }
+{
+    let a = store::force(*n, log);
+    *n = a.numbers;
+    a.reply
+}
+
+// The log is replaced by one check record with the next number, where the store holds all that the work pages do.
+#[no_mangle]
+pub extern "C" fn uhtlight_checkpoint(
+    n: &mut Numbers,
+    work: &[u8],
+    store: &[u8],
+    log: &mut [u8],
+    clear: bool,
+) -> u8
+    ensures replaced { λ r. ⌜ left r [] (lent (now (n .exit) .used) (now (n .exit) .forced) (now (work .entry)) (now (store .entry)) (now (log .exit)) [])
+        ≡ checkpoint clear (lent (now (n .entry) .used) (now (n .entry) .forced) (now (work .entry)) (now (store .entry)) (now (log .entry)) []) ⌝ }
+{
+    let a = store::checkpoint(*n, work, store, log, clear);
     *n = a.numbers;
     a.reply
 }

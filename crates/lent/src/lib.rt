@@ -3,9 +3,28 @@
 // record at entry and at exit for the numbers. These are also the names that C has.
 ghost use mathlib.Core.Path.{_≡_};
 ghost use mathlib.Core.List.{[]};
-ghost use Rattle.store.specs.Calls.{lent, left, flush, force, checkpoint};
+ghost use Rattle.store.specs.Calls.{lent, left, build, flush, force, checkpoint};
 use field::PageNo;
 use store::Numbers;
+
+// A tree of these records, in work and store alike, and a new log.
+#[no_mangle]
+pub extern "C" fn uhtlight_build(
+    n: &mut Numbers,
+    work: &mut [u8],
+    store: &mut [u8],
+    log: &mut [u8],
+    records: &[u8],
+    f: u32,
+    g: u32,
+) -> u8
+    ensures built { λ r. ⌜ left r [] (lent (now (n .exit) .used) (now (n .exit) .forced) (now (work .exit)) (now (store .exit)) (now (log .exit)) (now (records .entry)))
+        ≡ build f g (lent (now (n .entry) .used) (now (n .entry) .forced) (now (work .entry)) (now (store .entry)) (now (log .entry)) (now (records .entry))) ⌝ }
+{
+    let a = store::build(*n, work, store, log, records, f, g);
+    *n = a.numbers;
+    a.reply
+}
 
 // One work page is written to the store, where its last change is forced.
 #[no_mangle]

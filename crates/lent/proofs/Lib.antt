@@ -1,3 +1,4 @@
 -- The walk of an outer call, and what it asks of each type of answer.
 pub mod Outer
 pub mod OfReply
+pub mod OfFound

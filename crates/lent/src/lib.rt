@@ -3,9 +3,10 @@
 // record at entry and at exit for the numbers. These are also the names that C has.
 ghost use mathlib.Core.Path.{_≡_};
 ghost use mathlib.Core.List.{[]};
-ghost use Rattle.store.specs.Calls.{lent, left, build, flush, force, checkpoint};
+ghost use Rattle.store.specs.Calls.{lent, left, build, flush, force, checkpoint, find};
 use field::PageNo;
 use store::Numbers;
+use tree::find::Found;
 
 // A tree of these records, in work and store alike, and a new log.
 #[no_mangle]
@@ -69,4 +70,15 @@ pub extern "C" fn uhtlight_checkpoint(
     let a = store::checkpoint(*n, work, store, log, clear);
     *n = a.numbers;
     a.reply
+}
+
+// The value of the record with this key.
+#[no_mangle]
+pub extern "C" fn uhtlight_find(n: &mut Numbers, work: &[u8], log: &[u8], key: u32) -> Found
+    ensures found { λ r. ⌜ left (r .reply) (r .value) (lent (now (n .exit) .used) (now (n .exit) .forced) (now (work .entry)) [] (now (log .entry)) [])
+        ≡ find key (lent (now (n .entry) .used) (now (n .entry) .forced) (now (work .entry)) [] (now (log .entry)) []) ⌝ }
+{
+    let a = store::find(*n, work, log, key);
+    *n = a.numbers;
+    a.found
 }

@@ -2,3 +2,4 @@
 pub mod Outer
 pub mod OfReply
 pub mod OfFound
+pub mod OfListed

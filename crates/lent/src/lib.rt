@@ -2,9 +2,11 @@
 // its core in `store` a copy of that record, puts what comes back in its place and returns the rest; so its contract is the core's, with the
 // record at entry and at exit for the numbers. These are also the names that C has.
 ghost use mathlib.Core.Path.{_≡_};
-ghost use mathlib.Core.List.{[]};
-ghost use Rattle.store.specs.Calls.{lent, left, build, flush, force, checkpoint, find};
+ghost use mathlib.Core.List.{[], _∷_};
+ghost use Rattle.field.specs.Test.{pick};
+ghost use Rattle.store.specs.Calls.{lent, left, build, flush, force, checkpoint, find, list};
 use field::PageNo;
+use store::Listed;
 use store::Numbers;
 use tree::find::Found;
 
@@ -81,4 +83,22 @@ pub extern "C" fn uhtlight_find(n: &mut Numbers, work: &[u8], log: &[u8], key: u
     let a = store::find(*n, work, log, key);
     *n = a.numbers;
     a.found
+}
+
+// The records whose keys are low to high, both included, written to out as far as they fit whole.
+#[no_mangle]
+pub extern "C" fn uhtlight_list(
+    n: &mut Numbers,
+    work: &[u8],
+    log: &[u8],
+    low: u32,
+    high: u32,
+    out: &mut [u8],
+) -> Listed
+    ensures listed { λ r. ⌜ left (r .reply) (r .count ∷ pick (r .more) 1 0 ∷ []) (lent (now (n .exit) .used) (now (n .exit) .forced) (now (work .entry)) [] (now (log .entry)) (now (out .exit)))
+        ≡ list low high (lent (now (n .entry) .used) (now (n .entry) .forced) (now (work .entry)) [] (now (log .entry)) (now (out .entry))) ⌝ }
+{
+    let a = store::list(*n, work, log, low, high, out);
+    *n = a.numbers;
+    a.listed
 }

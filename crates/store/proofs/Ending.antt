@@ -27,17 +27,21 @@ lk-cleared false (some k) = refl
 
 -- s shows the numbers w
 module _ (w : Walk) (s : State) (e : w ≡ shown s) where
-  shown-at : w .at ≡ s .at
+  pub shown-at : w .at ≡ s .at
   unfolding shown
   shown-at = ap (λ (w : Walk). w .at) e
 
-  shown-number : w .number ≡ s .number
+  pub shown-number : w .number ≡ s .number
   unfolding shown
   shown-number = ap (λ (w : Walk). w .number) e
 
-  shown-unit : w .unit ≡ s .unit
+  pub shown-unit : w .unit ≡ s .unit
   unfolding shown
   shown-unit = ap (λ (w : Walk). w .unit) e
+
+  shown-opened : w .opened ≡ there (s .opened)
+  unfolding shown
+  shown-opened = ap (λ (w : Walk). w .opened) e
 
   shown-lk : when (w .known) (w .lk) ≡ s .lk
   unfolding shown
@@ -56,6 +60,9 @@ module _ (d : Lent) (t : Scan) (k : Knows d t) where
 
   pub end-unit : t .walk .unit ≡ atEnd (k .log) .unit
   end-unit = shown-unit (t .walk) (atEnd (k .log)) (k .walk)
+
+  pub end-opened : t .walk .opened ≡ there (atEnd (k .log) .opened)
+  end-opened = shown-opened (t .walk) (atEnd (k .log)) (k .walk)
 
   pub end-lk : when (t .walk .known) (t .walk .lk) ≡ atEnd (k .log) .lk
   end-lk = shown-lk (t .walk) (atEnd (k .log)) (k .walk)

@@ -9,3 +9,5 @@ pub mod Replies
 pub mod Flushes
 pub mod Ending
 pub mod Replaces
+pub mod Units
+pub mod Begins

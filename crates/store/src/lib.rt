@@ -1,5 +1,6 @@
 // The public calls, over slices and numbers by value. None has a `requires`: each tests what it is lent, in the order of document 01's
 // table, and its contract says that all it leaves is what its definition in specs/Calls.antt leaves.
+mod beginning;
 mod building;
 mod checkpointing;
 mod flushing;
@@ -9,6 +10,8 @@ mod known;
 mod listing;
 mod looking;
 
+pub use beginning::begin_compact;
+pub use beginning::begin_order;
 pub use building::build;
 pub use checkpointing::checkpoint;
 pub use flushing::flush;

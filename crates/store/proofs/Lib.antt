@@ -1,4 +1,4 @@
--- Laws about the calls' definitions: refusals, and each way through a call's tests.
+-- Laws about the calls' definitions: refusals, and each way through a call's tests; and about one step of an open unit.
 pub mod Refusals
 pub mod Chain
 pub mod Builds
@@ -11,3 +11,8 @@ pub mod Ending
 pub mod Replaces
 pub mod Units
 pub mod Begins
+pub mod Stands
+pub mod Appends
+pub mod Newer
+pub mod Grows
+pub mod Steps

@@ -3,3 +3,4 @@ pub mod Calls
 pub mod Begins
 pub mod Knows
 pub mod Ranges
+pub mod Appends

@@ -1,5 +1,6 @@
 // The public calls, over slices and numbers by value. None has a `requires`: each tests what it is lent, in the order of document 01's
 // table, and its contract says that all it leaves is what its definition in specs/Calls.antt leaves.
+mod appending;
 mod beginning;
 mod building;
 mod checkpointing;
@@ -9,6 +10,8 @@ mod fresh;
 mod known;
 mod listing;
 mod looking;
+mod recovering;
+mod stepping;
 
 pub use beginning::begin_compact;
 pub use beginning::begin_order;
@@ -23,3 +26,4 @@ pub use listing::Listed;
 pub use listing::list;
 pub use looking::FindAnswer;
 pub use looking::find;
+pub use stepping::step;

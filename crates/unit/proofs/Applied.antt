@@ -3,32 +3,33 @@ use Prim.Native.Nat.{ℕ, suc, _+_, _-_, _*_, _≤_, _<_}
 use native.Mathlib.Nat.{add-sub-cancel-left}
 use native.Mathlib.Omega.{arith}
 use mathlib.Core.Path.{_≡_, refl, sym, ap, _∙_}
-use mathlib.Core.Bool.{Bool, true, false, not}
+use mathlib.Core.Bool.{Bool, true, false, not, false≢true}
 use mathlib.Core.List.{List, [], _∷_}
-use mathlib.Core.Option.{Option, some, none}
+use mathlib.Core.Option.{Option, some, none, Option·some-injective}
 use lib.ListN.{length, take, drop, getD}
 use lib.Seq.{take-length}
 use lib.Dec.{eqb, leb}
 use borrow.Author.Tests.{leb-true, eq-eqb, ne-eqb, le-leb, lt-leb, not-true, not-false}
-use Rattle.field.specs.Test.{both, all, pick, given, bind, there}
+use Rattle.field.specs.Test.{both, all, pick, given, when, bind, there}
 use Rattle.field.specs.Bytes.{part, same, le4}
-use Rattle.field.proofs.Test.{both-1, both-true, both-false, both-end, all-head, all-tail, all-true, all-false, pick-true, pick-false, pick-either, when-true, when-false}
+use Rattle.field.proofs.Test.{both-1, both-2, both-true, both-false, both-end, all-head, all-tail, all-true, all-false, pick-true, pick-false, when-false}
 use Rattle.field.proofs.Part.{split}
+use Rattle.field.proofs.Same.{same-eq}
 use Rattle.page.specs.Page.{rowsOf, joined, keyOf, toPage, ascend, ascendRecords, count, rows, entries, records, isBase, isLeaf, isEmpty}
 use Rattle.page.specs.Change.{above, emptied, appended, has, removed, redirected}
 use Rattle.page.specs.Pages.{page, putPage}
 use Rattle.page.specs.Results.{madeEmpty, madeLonger, madePointing, madeShorter}
 use Rattle.page.proofs.Rows.{length-rowsOf, length-rows, joined-rowsOf, key-row}
 use Rattle.page.proofs.Turns.{rows-next}
-use Rattle.page.proofs.Order.{ascend-facts, found-has}
+use Rattle.page.proofs.Order.{ascend-facts}
 use Rattle.page.proofs.Region.{base-whole, leaf-whole}
-use Rattle.page.proofs.Changes.{leaf-takes, pick-takes, base-room, redirected-at, removed-at}
+use Rattle.page.proofs.Changes.{leaf-takes, pick-takes, base-room, emptied-at, appended-at, redirected-at, removed-at}
 use Rattle.page.proofs.Pages.{lent-page}
 use Rattle.log.specs.Record.{LO, LI, LM}
 use Rattle.unit.specs.Next.{target, change, changedAt, apply}
 use Rattle.unit.specs.Made.{placeOf, Did}
 use Rattle.unit.proofs.Walk.{base-rows}
-use Rattle.unit.proofs.Entries.{place-facts, place-none}
+use Rattle.unit.proofs.Entries.{place-facts, place-none, place-has, place-inside}
 
 -- ---- a change that is refused, and one that is made
 
@@ -48,7 +49,35 @@ pub at-some : (p : ℕ) (f : List ℕ → Option (List ℕ)) (w pg : List ℕ) �
 unfolding changedAt bind
 at-some p f w pg e = rw e
 
+-- where a test says whether a change can be made, and it cannot
+pub did-not : (o : Option (List ℕ)) (w : List ℕ) (z : Bool) → z ≡ there o → not z ≡ true → Did o w false w
+did-not o w z e h = did-none o w (there-none o (sym e ∙ not-true z h))
+  where
+    there-none : (o : Option (List ℕ)) → there o ≡ false → o ≡ none
+    there-none none q = refl
+    there-none (some x) q = absurd (false≢true (sym (unfold there in q)))
+
+there-when : {A : Type 0} (b : Bool) (x : A) → there (when b x) ≡ b
+unfolding there when
+there-when true x = refl
+there-when false x = refl
+
+there-at : (p : ℕ) (f : List ℕ → Option (List ℕ)) (w : List ℕ) → there (changedAt (some p) f w) ≡ there (f (page p w))
+unfolding changedAt
+there-at p f w = there-bind (f (page p w))
+  where
+    there-bind : (o : Option (List ℕ)) → there (bind o (λ pg. some (putPage p pg w))) ≡ there o
+    there-bind none = unfold bind there in refl
+    there-bind (some x) = unfold bind there in refl
+
 -- ---- LO
+
+-- of all records of a leaf it can always be made
+pub out-own : (w : List ℕ) (org n : ℕ) → isLeaf (page org w) ≡ true → (v : List ℕ) → v ≡ putPage org (madeEmpty n (page org w)) w
+    → (dest : ℕ) → apply n (LO org dest (records (page org w))) w ≡ some v
+unfolding apply target change
+out-own w org n h v g dest =
+    at-some org (emptied n (records (page org w))) w (madeEmpty n (page org w)) (emptied-at n (records (page org w)) (page org w) h refl) ∙ ap some (sym g)
 
 pub not-leaf! : (z : Bool) (pg rs : List ℕ) → z ≡ isLeaf pg → not z ≡ true → false ≡ both (isLeaf pg) (same (joined (records pg)) rs)
 not-leaf! z pg rs e h = sym (both-false _ _ (sym e ∙ not-true z h))
@@ -80,9 +109,14 @@ module _ (w : List ℕ) (org n k : ℕ) (rs : List ℕ) (long : length rs ≡ 16
   unfolding apply target change emptied
   out-no h dest = did-none _ w (at-none org (emptied n (rowsOf 16 k rs)) w (when-false _ _ (sym tested ∙ not-true z h)))
 
-  pub out-done : not z ≡ false → (v : List ℕ) → v ≡ putPage org (madeEmpty n (page org w)) w → (dest : ℕ) → Did (apply n (LO org dest (rowsOf 16 k rs)) w) w true v
-  unfolding apply target change emptied
-  out-done h v g dest = did-some _ w v _ (at-some org (emptied n (rowsOf 16 k rs)) w (madeEmpty n (page org w)) (when-true _ _ (sym tested ∙ not-false z h))) g
+  pub out-done : not z ≡ false → (v : List ℕ) → ((dest : ℕ) → apply n (LO org dest (records (page org w))) w ≡ some v)
+      → (dest : ℕ) → Did (apply n (LO org dest (rowsOf 16 k rs)) w) w true v
+  unfolding apply target change
+  out-done h v g dest =
+      let q : joined (records (page org w)) ≡ joined (rowsOf 16 k rs) = same-eq _ _ (both-2 _ _ (sym tested ∙ not-false z h)) in
+      let r : emptied n (rowsOf 16 k rs) (page org w) ≡ some (madeEmpty n (page org w)) = emptied-at n (rowsOf 16 k rs) (page org w) (out-leaf h) q in
+      did-some _ w v _ (at-some org (emptied n (rowsOf 16 k rs)) w (madeEmpty n (page org w)) r)
+      (sym (Option·some-injective _ v (sym (out-own w org n (out-leaf h) _ refl dest) ∙ g dest)))
 
 -- ---- LI
 
@@ -155,106 +189,128 @@ module _ (z : Bool) (k : ℕ) (rs pg : List ℕ) (e : z ≡ pick (isEmpty pg) tr
     takes-keys! lo f a b m more t =
         sym (fits ∙ all-true _ _ (le-leb (c + k) 15 m) ∙ all-one (ascendRecords (above 0 (records pg)) (rowsOf 16 k rs)) ∙ rw (← a, b) (ascend-follow lo k rs more t))
 
-module _ (w : List ℕ) (dest n k : ℕ) (rs : List ℕ) (z : Bool) (e : z ≡ test k rs (take (256 * dest + 256 - 256 * dest) (drop (256 * dest) w))) where
-  checked : z ≡ test k rs (page dest w)
-  checked = e ∙ rw (lent-page dest w)
-
-  asks : z ≡ all (pick (isEmpty (page dest w)) true (isLeaf (page dest w)) ∷ leb (length (records (page dest w)) + length (rowsOf 16 k rs)) 15
-      ∷ ascendRecords (above 0 (records (page dest w))) (rowsOf 16 k rs) ∷ [])
-  asks = checked ∙ rw (length-rowsOf 16 k rs)
-
-  pub in-open : not z ≡ false → pick (isEmpty (page dest w)) true (isLeaf (page dest w)) ≡ true
-  in-open h = all-head _ _ (sym checked ∙ not-false z h)
-
-  pub in-room : not z ≡ false → count (page dest w) + k ≤ 15
-  in-room h = omega (arith, length-rows 16 (page dest w), leb-true (length (records (page dest w)) + k) 15 (all-head _ _ (all-tail _ _ (sym checked ∙ not-false z h))))
-
-  pub in-no : not z ≡ true → (org back : ℕ) → Did (apply n (LI org dest back (rowsOf 16 k rs)) w) w false w
+module _ (w : List ℕ) (dest k : ℕ) (rs : List ℕ) where
+  in-there : (n org back : ℕ) → there (apply n (LI org dest back (rowsOf 16 k rs)) w) ≡ test k rs (page dest w)
   unfolding apply target change appended
-  in-no h org back = did-none _ w (at-none dest (appended n (rowsOf 16 k rs)) w (when-false _ _ (sym asks ∙ not-true z h)))
+  in-there n org back = there-at dest (appended n (rowsOf 16 k rs)) w ∙ there-when _ _ ∙ rw (length-rowsOf 16 k rs)
 
-  pub in-done : not z ≡ false → (v : List ℕ) → v ≡ putPage dest (madeLonger n (rowsOf 16 k rs) (page dest w)) w → (org back : ℕ)
-      → Did (apply n (LI org dest back (rowsOf 16 k rs)) w) w true v
-  unfolding apply target change appended
-  in-done h v g org back =
-      did-some _ w v _ (at-some dest (appended n (rowsOf 16 k rs)) w (madeLonger n (rowsOf 16 k rs) (page dest w)) (when-true _ _ (sym asks ∙ not-false z h))) g
+  pub in-can : (z : Bool) → z ≡ test k rs (take (256 * dest + 256 - 256 * dest) (drop (256 * dest) w))
+      → (n org back : ℕ) → z ≡ there (apply n (LI org dest back (rowsOf 16 k rs)) w)
+  in-can z e n org back = e ∙ rw (lent-page dest w) (sym (in-there n org back))
+
+  module _ (z : Bool) (e : (n org back : ℕ) → z ≡ there (apply n (LI org dest back (rowsOf 16 k rs)) w)) (h : not z ≡ false) where
+    passed : test k rs (page dest w) ≡ true
+    passed = sym (in-there 0 0 0) ∙ sym (e 0 0 0) ∙ not-false z h
+
+    pub in-open : pick (isEmpty (page dest w)) true (isLeaf (page dest w)) ≡ true
+    in-open = all-head _ _ passed
+
+    pub in-room : count (page dest w) + k ≤ 15
+    in-room = omega (arith, length-rows 16 (page dest w), leb-true (length (records (page dest w)) + k) 15 (all-head _ _ (all-tail _ _ passed)))
+
+    pub in-done : (n : ℕ) (v : List ℕ) → v ≡ putPage dest (madeLonger n (rowsOf 16 k rs) (page dest w)) w → (org back : ℕ)
+        → Did (apply n (LI org dest back (rowsOf 16 k rs)) w) w true v
+    unfolding apply target change
+    in-done n v g org back =
+        let m : length (records (page dest w)) + length (rowsOf 16 k rs) ≤ 15 = omega (arith, in-room, length-rows 16 (page dest w), length-rowsOf 16 k rs) in
+        let f : ascendRecords (above 0 (records (page dest w))) (rowsOf 16 k rs) ≡ true = all-head _ _ (all-tail _ _ (all-tail _ _ passed)) in
+        did-some _ w v _
+        (at-some dest (appended n (rowsOf 16 k rs)) w (madeLonger n (rowsOf 16 k rs) (page dest w)) (appended-at n (rowsOf 16 k rs) (page dest w) in-open m f)) g
 
 -- ---- LM
 
-module _ (w : List ℕ) (base n old new key : ℕ) where
-  refused : removed n key old (page base w) ≡ none → redirected n key old new (page base w) ≡ none → Did (apply n (LM base old new key) w) w false w
+-- the test of an LM: a base page that has the entry and, where that is removed, another
+abbrev allows : (t : Bool) (key old : ℕ) (pg : List ℕ) → Bool
+allows t key old pg = all (isBase pg ∷ has key old (entries pg) ∷ pick t (leb 2 (length (entries pg))) true ∷ [])
+
+allows-there : (t : Bool) (n key old new : ℕ) (pg : List ℕ) → there (pick t (removed n key old pg) (redirected n key old new pg)) ≡ allows t key old pg
+unfolding pick removed redirected
+allows-there true n key old new pg = there-when _ _
+allows-there false n key old new pg = there-when _ _ ∙ unfold all both in (rw (both-end (has key old (entries pg))))
+
+module _ (w : List ℕ) (base old new key : ℕ) where
+  modify-there : (n : ℕ) → there (apply n (LM base old new key) w) ≡ allows (eqb new 0) key old (page base w)
   unfolding apply target change
-  refused a b =
-      did-none _ w
-      (at-none base (λ pg. pick (eqb new 0) (removed n key old pg) (redirected n key old new pg)) w
-      (pick-either (λ (o : Option (List ℕ)). o ≡ none) (eqb new 0) (removed n key old (page base w)) (redirected n key old new (page base w)) a b))
+  modify-there n = there-at base (λ pg. pick (eqb new 0) (removed n key old pg) (redirected n key old new pg)) w ∙ allows-there (eqb new 0) n key old new (page base w)
 
   module _ (z : Bool) (e : z ≡ isBase (take (256 * base + 256 - 256 * base) (drop (256 * base) w))) where
     is : z ≡ isBase (page base w)
     is = e ∙ rw (lent-page base w)
 
-    pub modify-page : not z ≡ true → Did (apply n (LM base old new key) w) w false w
-    unfolding removed redirected
-    modify-page h =
-        let q : isBase (page base w) ≡ false = sym is ∙ not-true z h in
-        refused (when-false _ _ (all-false _ _ q)) (when-false _ _ (both-false _ _ q))
+    pub can-page : not z ≡ true → (n : ℕ) → false ≡ there (apply n (LM base old new key) w)
+    can-page h n = sym (modify-there n ∙ all-false _ _ (sym is ∙ not-true z h))
 
-    pub modify-room : (c : ℕ) → c ≡ count (page base w) → not z ≡ false → 16 + 8 * c ≤ length (take (256 * base + 256 - 256 * base) (drop (256 * base) w))
-    modify-room c g h =
-        let q : isBase (page base w) ≡ true = sym is ∙ not-false z h in
-        rw (lent-page base w) (omega (arith, base-whole (page base w) q, base-room (page base w) q))
+    pub can-base : not z ≡ false → isBase (page base w) ≡ true
+    can-base h = sym is ∙ not-false z h
 
-    module _ (t : not z ≡ false) (c i : ℕ) (g : c ≡ count (page base w))
-        (f : i ≡ placeOf key old (rowsOf 8 c (drop 16 (take (256 * base + 256 - 256 * base) (drop (256 * base) w))))) where
-      pub modify-base : isBase (page base w) ≡ true
-      modify-base = sym is ∙ not-false z t
-
-      placed : i ≡ placeOf key old (entries (page base w))
-      placed = f ∙ rw (base-rows w base c g)
-
+    module _ (t : not z ≡ false) (c i : ℕ) (g : c ≡ count (page base w)) (f : i ≡ placeOf key old (entries (page base w))) where
       long : length (entries (page base w)) ≡ c
       long = length-rows 8 (page base w) ∙ sym g
 
-      pub modify-missing : i ≡ c → Did (apply n (LM base old new key) w) w false w
-      unfolding removed redirected
-      modify-missing h =
-          let q : has key old (entries (page base w)) ≡ false = place-none key old (entries (page base w)) (sym placed ∙ h ∙ sym long) in
-          refused (when-false _ _ (all-true _ _ modify-base ∙ all-false _ _ q)) (when-false _ _ (both-true _ _ modify-base ∙ q))
+      pub can-missing : i ≡ c → (n : ℕ) → false ≡ there (apply n (LM base old new key) w)
+      can-missing h n =
+          let q : has key old (entries (page base w)) ≡ false = place-none key old (entries (page base w)) (sym f ∙ h ∙ sym long) in
+          sym (modify-there n ∙ all-true _ _ (can-base t) ∙ all-false _ _ q)
 
-      module _ (few : i ≤ c) (ne : i ≡ c → ⊥) where
-        pub modify-inside : i < count (page base w)
-        modify-inside = split i c (λ a. omega arith) (λ a. absurd (ne (omega arith)))
+      module _ (ne : i ≡ c → ⊥) where
+        there-is : has key old (entries (page base w)) ≡ true
+        there-is = place-has key old (entries (page base w)) (λ q. ne (f ∙ q ∙ long))
 
-        at : i < length (entries (page base w))
-        at = omega (arith, modify-inside, long)
+        last-test : (n : ℕ) → there (apply n (LM base old new key) w) ≡ pick (eqb new 0) (leb 2 (length (entries (page base w)))) true
+        last-test n = modify-there n ∙ all-true _ _ (can-base t) ∙ all-true _ _ there-is ∙ all-one _
 
-        found : (keyOf (getD (entries (page base w)) i []) ≡ key) × (toPage (getD (entries (page base w)) i []) ≡ old)
-        found = rw placed (place-facts key old (entries (page base w)) (rw (← placed) at))
+        pub can-point : (new ≡ 0 → ⊥) → (n : ℕ) → true ≡ there (apply n (LM base old new key) w)
+        can-point h n = sym (last-test n ∙ pick-false _ _ _ (ne-eqb new 0 h))
 
-        pub modify-point : (new ≡ 0 → ⊥) → (v : List ℕ) → v ≡ putPage base (madePointing n i new (page base w)) w → Did (apply n (LM base old new key) w) w true v
-        unfolding apply target change
-        modify-point h v d =
-            let r : redirected n key old new (page base w) ≡ some (madePointing n i new (page base w)) =
-            rw (← (found .0), ← (found .1)) (redirected-at n i (page base w) modify-base modify-inside new) in
-            did-some _ w v _
-            (at-some base (λ pg. pick (eqb new 0) (removed n key old pg) (redirected n key old new pg)) w (madePointing n i new (page base w))
-            (pick-false (eqb new 0) _ _ (ne-eqb new 0 h) ∙ r)) d
+        pub can-remove : new ≡ 0 → (n : ℕ) → leb 2 c ≡ there (apply n (LM base old new key) w)
+        can-remove h n = sym (last-test n ∙ pick-true _ _ _ (eq-eqb new 0 h) ∙ rw long)
 
-        module _ (h : new ≡ 0) where
-          pub modify-only : c < 2 → Did (apply n (LM base old new key) w) w false w
-          unfolding apply target change removed
-          modify-only m =
-              let k : leb 2 (length (entries (page base w))) ≡ false = lt-leb 2 (length (entries (page base w))) (omega (arith, long)) in
-              did-none _ w
-              (at-none base (λ pg. pick (eqb new 0) (removed n key old pg) (redirected n key old new pg)) w
-              (pick-true (eqb new 0) _ _ (eq-eqb new 0 h)
-              ∙ when-false _ _ (all-true _ _ modify-base ∙ all-true _ _ (found-has key old i (entries (page base w)) at (found .0) (found .1)) ∙ all-false _ _ k)))
+  -- the change itself
+  module _ (z : Bool) (e : (n : ℕ) → z ≡ there (apply n (LM base old new key) w)) (t : not z ≡ false) where
+    allowed : allows (eqb new 0) key old (page base w) ≡ true
+    allowed = sym (modify-there 0) ∙ sym (e 0) ∙ not-false z t
 
-          pub modify-remove : 2 ≤ c → (v : List ℕ) → v ≡ putPage base (madeShorter n i (page base w)) w → Did (apply n (LM base old new key) w) w true v
-          unfolding apply target change
-          modify-remove m v d =
-              let r : removed n key old (page base w) ≡ some (madeShorter n i (page base w)) =
-              rw (← (found .0), ← (found .1)) (removed-at n i (page base w) modify-base modify-inside (omega arith)) in
-              did-some _ w v _
-              (at-some base (λ pg. pick (eqb new 0) (removed n key old pg) (redirected n key old new pg)) w (madeShorter n i (page base w))
-              (pick-true (eqb new 0) _ _ (eq-eqb new 0 h) ∙ r)) d
+    pub modify-base : isBase (page base w) ≡ true
+    modify-base = all-head _ _ allowed
+
+    pub modify-others : new ≡ 0 → 2 ≤ count (page base w)
+    modify-others h =
+        let q : leb 2 (length (entries (page base w))) ≡ true = sym (pick-true (eqb new 0) _ true (eq-eqb new 0 h)) ∙ all-head _ _ (all-tail _ _ (all-tail _ _ allowed)) in
+        omega (arith, length-rows 8 (page base w), leb-true 2 (length (entries (page base w))) q)
+
+    module _ (i : ℕ) (f : i ≡ placeOf key old (entries (page base w))) where
+      at : placeOf key old (entries (page base w)) < length (entries (page base w))
+      at = place-inside key old (entries (page base w)) (all-head _ _ (all-tail _ _ allowed))
+
+      pub modify-inside : i < count (page base w)
+      modify-inside = omega (arith, at, length-rows 8 (page base w))
+
+      found : (keyOf (getD (entries (page base w)) i []) ≡ key) × (toPage (getD (entries (page base w)) i []) ≡ old)
+      found = rw f (place-facts key old (entries (page base w)) at)
+
+      pub modify-point : (new ≡ 0 → ⊥) → (n : ℕ) (v : List ℕ) → v ≡ putPage base (madePointing n i new (page base w)) w → Did (apply n (LM base old new key) w) w true v
+      unfolding apply target change
+      modify-point h n v d =
+          let r : redirected n key old new (page base w) ≡ some (madePointing n i new (page base w)) =
+          rw (← (found .0), ← (found .1)) (redirected-at n i (page base w) modify-base modify-inside new) in
+          did-some _ w v _
+          (at-some base (λ pg. pick (eqb new 0) (removed n key old pg) (redirected n key old new pg)) w (madePointing n i new (page base w))
+          (pick-false (eqb new 0) _ _ (ne-eqb new 0 h) ∙ r)) d
+
+      pub modify-remove : new ≡ 0 → (n : ℕ) (v : List ℕ) → v ≡ putPage base (madeShorter n i (page base w)) w → Did (apply n (LM base old new key) w) w true v
+      unfolding apply target change
+      modify-remove h n v d =
+          let r : removed n key old (page base w) ≡ some (madeShorter n i (page base w)) =
+          rw (← (found .0), ← (found .1)) (removed-at n i (page base w) modify-base modify-inside (modify-others h)) in
+          did-some _ w v _
+          (at-some base (λ pg. pick (eqb new 0) (removed n key old pg) (redirected n key old new pg)) w (madeShorter n i (page base w))
+          (pick-true (eqb new 0) _ _ (eq-eqb new 0 h) ∙ r)) d
+
+-- the place of an entry, as the code reads it off the lent page
+pub entry-place! : (w : List ℕ) (base old key c i : ℕ) → c ≡ count (page base w)
+    → i ≡ placeOf key old (rowsOf 8 c (drop 16 (take (256 * base + 256 - 256 * base) (drop (256 * base) w)))) → i ≡ placeOf key old (entries (page base w))
+entry-place! w base old key c i g f = f ∙ rw (base-rows w base c g)
+
+pub entry-room : (w : List ℕ) (base c : ℕ) → c ≡ count (page base w) → isBase (page base w) ≡ true
+    → 16 + 8 * c ≤ length (take (256 * base + 256 - 256 * base) (drop (256 * base) w))
+entry-room w base c g q = rw (lent-page base w) (omega (arith, base-whole (page base w) q, base-room (page base w) q))

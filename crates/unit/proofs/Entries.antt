@@ -2,8 +2,8 @@
 use Prim.Native.Nat.{ℕ, suc, _+_, _-_, _≤_, _<_}
 use native.Mathlib.Nat.{add-zero, not-suc-le-zero}
 use native.Mathlib.Omega.{arith}
-use mathlib.Core.Path.{_≡_, refl, sym, _∙_}
-use mathlib.Core.Bool.{Bool, true, false, not}
+use mathlib.Core.Path.{_≡_, refl, sym, ap, _∙_}
+use mathlib.Core.Bool.{Bool, true, false, not, false≢true}
 use mathlib.Core.List.{List, [], _∷_}
 use mathlib.Core.Option.{Option, some}
 use lib.ListN.{length, drop, getD}
@@ -103,3 +103,21 @@ place-none key p (x ∷ es) e =
     (λ t. absurd (let z : pick (isEntry key p x) 0 (suc (placeOf key p es)) ≡ 0 = pick-true (isEntry key p x) 0 _ t in let y : ⊥ = omega arith in y))
     (λ t. let z : pick (isEntry key p x) 0 (suc (placeOf key p es)) ≡ suc (placeOf key p es) = pick-false (isEntry key p x) 0 _ t in
     pick-false (isEntry key p x) true (has key p es) t ∙ place-none key p es (omega arith))
+
+pub place-has : (key p : ℕ) (es : List (List ℕ)) → (placeOf key p es ≡ length es → ⊥) → has key p es ≡ true
+unfolding placeOf has
+place-has key p [] h = absurd (h refl)
+place-has key p (x ∷ es) h =
+    decide (isEntry key p x)
+    (λ t. pick-true (isEntry key p x) true (has key p es) t)
+    (λ t. let z : pick (isEntry key p x) 0 (suc (placeOf key p es)) ≡ suc (placeOf key p es) = pick-false (isEntry key p x) 0 _ t in
+    pick-false (isEntry key p x) true (has key p es) t ∙ place-has key p es (λ q. h (z ∙ ap suc q)))
+
+pub place-inside : (key p : ℕ) (es : List (List ℕ)) → has key p es ≡ true → placeOf key p es < length es
+unfolding placeOf has
+place-inside key p [] h = absurd (false≢true h)
+place-inside key p (x ∷ es) h =
+    decide (isEntry key p x)
+    (λ t. let z : pick (isEntry key p x) 0 (suc (placeOf key p es)) ≡ 0 = pick-true (isEntry key p x) 0 _ t in omega arith)
+    (λ t. let z : pick (isEntry key p x) 0 (suc (placeOf key p es)) ≡ suc (placeOf key p es) = pick-false (isEntry key p x) 0 _ t in
+    omega (arith, place-inside key p es (sym (pick-false (isEntry key p x) true (has key p es) t) ∙ h)))

@@ -12,3 +12,4 @@ pub mod Rooms
 pub mod Entries
 pub mod Applied
 pub mod Repeats
+pub mod Kept

@@ -1,19 +1,20 @@
-// What one record does to its page, in a step and repeated alike. Each function tests first: where it answers false, reply 5, no byte
-// has changed.
+// What one record does to its page, in a step and repeated alike, and whether it can be done. Each change is tested first: where it
+// answers false, reply 5, no byte has changed.
 ghost use mathlib.Core.Path.{_≡_};
 ghost use mathlib.Core.Bool.{true};
 ghost use mathlib.Core.List.{[], _∷_};
 ghost use Prim.Native.Nat.{ℕ, _+_, _*_, _≤_, _<_};
 ghost use lib.ListN.{length};
 ghost use lib.Dec.{leb};
-ghost use Rattle.field.specs.Test.{both, all, pick};
+ghost use mathlib.Core.Option.{some};
+ghost use Rattle.field.specs.Test.{both, all, pick, there};
 ghost use Rattle.field.specs.Bytes.{same};
-ghost use Rattle.page.specs.Page.{rowsOf, joined, ascendRecords, number, records, isLeaf, isEmpty};
+ghost use Rattle.page.specs.Page.{rowsOf, joined, ascendRecords, number, entries, records, isBase, isLeaf, isEmpty};
 ghost use Rattle.page.specs.Change.{above};
 ghost use Rattle.page.specs.Pages.{page};
 ghost use Rattle.log.specs.Record.{LO, LI, LM};
 ghost use Rattle.unit.specs.Next.{apply, repeat};
-ghost use Rattle.unit.specs.Made.{Did};
+ghost use Rattle.unit.specs.Made.{Did, placeOf};
 use crate::entry;
 use field::LogNo;
 use field::PageNo;
@@ -33,6 +34,14 @@ fn holds(pg: &[u8], rs: &[u8]) -> bool
     field::same_bytes(&pg[16..end], rs)
 }
 
+// An LO of all its records: page org, a leaf, is made empty.
+pub fn take_all(w: &mut [u8], org: PageNo, n: LogNo)
+    requires { ⌜ (length (now w) ≡ 16384) × (org .0 < 64) × (isLeaf (page (org .0) (now w)) ≡ true) ⌝ }
+    ensures { λ _. ⌜ ((dest : ℕ) → apply (n .0) (LO (org .0) dest (records (page (org .0) (now (w .entry))))) (now (w .entry)) ≡ some (now (w .exit))) ⌝ }
+{
+    place::make_empty_at(w, org, n);
+}
+
 // An LO: page org, a leaf of exactly these k records, is made empty.
 pub fn take_out(w: &mut [u8], org: PageNo, rs: &[u8], k: u16, n: LogNo) -> bool
     requires { ⌜ (length (now w) ≡ 16384) × (org .0 < 64) × (length (now rs) ≡ 16 * k) ⌝ }
@@ -42,7 +51,7 @@ pub fn take_out(w: &mut [u8], org: PageNo, rs: &[u8], k: u16, n: LogNo) -> bool
     if !holds(&w[at..at + 256], rs) {
         return false;
     }
-    place::make_empty_at(w, org, n);
+    take_all(w, org, n);
     true
 }
 
@@ -82,18 +91,56 @@ fn takes(pg: &[u8], rs: &[u8], k: u16) -> bool
     least_after(pg) <= field::get4(rs, 2) as u64
 }
 
+// Whether an LI can be made: the k records of its LO may be appended to page dest.
+pub fn can_bring_in(w: &[u8], dest: PageNo, rs: &[u8], k: u16) -> bool
+    requires { ⌜ (length (now w) ≡ 16384) × (dest .0 < 64) ⌝ }
+    requires { ⌜ (1 ≤ k) × (k ≤ 15) × (length (now rs) ≡ 16 * k) × (ascendRecords 0 (rowsOf 16 k (now rs)) ≡ true) ⌝ }
+    ensures { λ r. ⌜ ((n org back : ℕ) → r ≡ there (apply n (LI org (dest .0) back (rowsOf 16 k (now (rs .entry)))) (now (w .entry)))) ⌝ }
+{
+    let at = 256 * (dest.0 as usize);
+    takes(&w[at..at + 256], rs, k)
+}
+
 // An LI: the k records of its LO are appended to page dest, an empty page or a leaf that ends below their keys, with room to 15.
 pub fn bring_in(w: &mut [u8], dest: PageNo, rs: &[u8], k: u16, n: LogNo) -> bool
     requires { ⌜ (length (now w) ≡ 16384) × (dest .0 < 64) ⌝ }
     requires { ⌜ (1 ≤ k) × (k ≤ 15) × (length (now rs) ≡ 16 * k) × (ascendRecords 0 (rowsOf 16 k (now rs)) ≡ true) ⌝ }
     ensures { λ r. ⌜ ((org back : ℕ) → Did (apply (n .0) (LI org (dest .0) back (rowsOf 16 k (now (rs .entry)))) (now (w .entry))) (now (w .entry)) r (now (w .exit))) ⌝ }
 {
-    let at = 256 * (dest.0 as usize);
-    if !takes(&w[at..at + 256], rs, k) {
+    if !can_bring_in(w, dest, rs, k) {
         return false;
     }
     place::append_at(w, dest, rs, k, n);
     true
+}
+
+// The place of the entry of page base, a base page, with this key to page old; the number of its entries where there is none.
+fn entry_at(w: &[u8], base: PageNo, old: u16, key: u32) -> u16
+    requires { ⌜ (length (now w) ≡ 16384) × (base .0 < 64) × (isBase (page (base .0) (now w)) ≡ true) ⌝ }
+    ensures { λ r. ⌜ r ≡ placeOf key old (entries (page (base .0) (now (w .entry)))) ⌝ }
+{
+    let at = 256 * (base.0 as usize);
+    let rows = well::count_at(w, base.0 as usize);
+    entry::entry_with(&w[at..at + 256], rows, key, old)
+}
+
+// Whether an LM can be made: page base is a base page and has the entry with this key to page old, and where new is 0, another.
+pub fn can_modify(w: &[u8], base: PageNo, old: u16, new: u16, key: u32) -> bool
+    requires { ⌜ (length (now w) ≡ 16384) × (base .0 < 64) ⌝ }
+    ensures { λ r. ⌜ ((n : ℕ) → r ≡ there (apply n (LM (base .0) old new key) (now (w .entry)))) ⌝ }
+{
+    let at = 256 * (base.0 as usize);
+    if !form::is_base(&w[at..at + 256]) {
+        return false;
+    }
+    let rows = well::count_at(w, base.0 as usize);
+    if entry_at(w, base, old, key) == rows {
+        return false;
+    }
+    if new != 0 {
+        return true;
+    }
+    2 <= rows
 }
 
 // An LM: the entry of page base with this key to page old points to page new, or where new is 0, is removed if it is not the only one.
@@ -101,23 +148,15 @@ pub fn modify(w: &mut [u8], base: PageNo, old: u16, new: u16, key: u32, n: LogNo
     requires { ⌜ (length (now w) ≡ 16384) × (base .0 < 64) × (new < 64) ⌝ }
     ensures { λ r. ⌜ Did (apply (n .0) (LM (base .0) old new key) (now (w .entry))) (now (w .entry)) r (now (w .exit)) ⌝ }
 {
-    let at = 256 * (base.0 as usize);
-    if !form::is_base(&w[at..at + 256]) {
+    if !can_modify(w, base, old, new, key) {
         return false;
     }
-    let rows = well::count_at(w, base.0 as usize);
-    let i = entry::entry_with(&w[at..at + 256], rows, key, old);
-    if i == rows {
-        return false;
-    }
+    let i = entry_at(w, base, old, key) as usize;
     if new != 0 {
-        place::redirect_at(w, base, i as usize, PageNo(new as u32), n);
+        place::redirect_at(w, base, i, PageNo(new as u32), n);
         return true;
     }
-    if rows < 2 {
-        return false;
-    }
-    place::remove_at(w, base, i as usize, n);
+    place::remove_at(w, base, i, n);
     true
 }
 

@@ -31,8 +31,8 @@ same-length c = search needs
 returns : tie.Need-returns
 returns c = search out-no
 
-make-empty-at-requires : tie.Need-make-empty-at-requires
-make-empty-at-requires c κs = (search needs, search out-leaf)
+take-all-requires : tie.Need-take-all-requires
+take-all-requires c κs = (search needs, search needs, search out-leaf)
 
 same-length-2 : tie.Need-same-length-2
 same-length-2 c = search needs
@@ -43,7 +43,7 @@ returns-2 c =
     let e = m .before .before in
     let t = e .before in
     let a = t .before .before .before .before .before .before in
-    out-done (a .args .w .now) (a .args .org .0) (a .args .n .0) (a .args .k) (a .args .rs .now) (a .pre .2) (t .holds .result) (t .holds .ensures) (e .if1 .left) _ (m .make-empty-at .ensures)
+    out-done (a .args .w .now) (a .args .org .0) (a .args .n .0) (a .args .k) (a .args .rs .now) (a .pre .2) (t .holds .result) (t .holds .ensures) (e .if1 .left) _ (m .take-all .ensures)
 
 pub take-out-spec : {M : Type 1} → statement M
 take-out-spec =
@@ -58,6 +58,6 @@ take-out-spec =
     holds-requires
     same-length
     returns
-    make-empty-at-requires
+    take-all-requires
     same-length-2
     returns-2)

@@ -11,7 +11,6 @@ use Rattle.field.specs.Test.{need, given, bind}
 use Rattle.field.specs.Bytes.{Bytes, put, most4}
 use Rattle.field.proofs.Test.{when-some, bind-some}
 use Rattle.field.proofs.Byte.{bytes-nil}
-use Rattle.page.specs.Page.{records}
 use Rattle.page.specs.Pages.{page}
 use Rattle.page.proofs.Rows.{length-rows}
 use Rattle.page.proofs.Pages.{bytes-page}

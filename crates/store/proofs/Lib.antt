@@ -16,3 +16,5 @@ pub mod Appends
 pub mod Newer
 pub mod Grows
 pub mod Steps
+pub mod Finishing
+pub mod Recovers

@@ -4,3 +4,4 @@ pub mod Begins
 pub mod Knows
 pub mod Ranges
 pub mod Appends
+pub mod Finishes

@@ -26,4 +26,7 @@ pub use listing::Listed;
 pub use listing::list;
 pub use looking::FindAnswer;
 pub use looking::find;
+pub use recovering::RecoverAnswer;
+pub use recovering::Recovered;
+pub use recovering::recover;
 pub use stepping::step;

@@ -2,13 +2,13 @@
 -- Assumes nothing.
 use Prim.Native.Nat.{ℕ, _+_, _≤_, _<_}
 use native.Mathlib.Omega.{arith}
-use mathlib.Core.Path.{_≡_, refl, sym, ap, subst}
+use mathlib.Core.Path.{_≡_, refl, subst}
 use mathlib.Core.Bool.{Bool, true, false}
-use mathlib.Core.List.{List, [], _∷_}
+use mathlib.Core.List.{List, _∷_}
 use mathlib.Core.Option.{Option, some, none, Option·some-injective}
 use lib.ListN.{length}
 use lib.Dec.{leb}
-use Rattle.field.specs.Test.{pick, bind}
+use Rattle.field.specs.Test.{pick}
 use Rattle.field.specs.Bytes.{most4}
 use Rattle.field.proofs.Test.{bind-some}
 use Rattle.page.specs.Page.{number, formed}

@@ -13,3 +13,5 @@ pub mod Entries
 pub mod Applied
 pub mod Repeats
 pub mod Kept
+pub mod Redone
+pub mod Rerun

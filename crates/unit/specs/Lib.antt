@@ -4,3 +4,4 @@ pub mod Next
 pub mod Chosen
 pub mod Room
 pub mod Made
+pub mod Again

@@ -1,0 +1,63 @@
+-- A record of the log repeated, by the numbers of the walk that has reached it. Assumes nothing.
+use Prim.Native.Nat.{ℕ, _+_, _*_, _≤_, _<_}
+use mathlib.Core.Path.{_≡_}
+use mathlib.Core.Bool.{Bool, true}
+use mathlib.Core.List.{List}
+use mathlib.Core.Option.{Option, some}
+use lib.ListN.{length, drop, getD}
+use Rattle.field.specs.Test.{pick, bind, there}
+use Rattle.field.specs.Bytes.{le2}
+use Rattle.page.specs.Page.{ascendRecords}
+use Rattle.log.specs.Plan.{Step, takeOut, bringIn, point, close, plan}
+use Rattle.log.specs.Log.{beginOk, readBegin, readLog}
+use Rattle.log.specs.Source.{sourceAt, sourceRows, sourced, recordAt}
+use Rattle.log.specs.declared.scan.Walk.{Walk}
+use Rattle.unit.specs.Next.{repeat, repeatAll}
+
+-- ---- the record of a step
+
+-- what is needed to read it off the log l: its page is one of the 64, and its bytes, or those of its LO, stand in l
+abbrev pub OutReads : (l : List ℕ) → Walk → (org : ℕ) → Type 0
+OutReads l w org = (org < 64) × (w .at + 20 + 16 * le2 l (w .at + 16) ≤ length l)
+
+abbrev pub InReads : (l : List ℕ) → Walk → (dest back : ℕ) → Type 0
+InReads l w dest back =
+    (dest < 64) × (w .begin + 44 ≤ length l) × (1 ≤ sourceRows w back) × (sourceRows w back ≤ 15)
+    × (sourceAt w back + 20 + 16 * sourceRows w back ≤ length l) × (ascendRecords 0 (sourced l w back) ≡ true)
+
+abbrev pub PointReads : (l : List ℕ) → Walk → (base new : ℕ) → Type 0
+PointReads l w base new = (base < 64) × (new < 64) × (w .at + 28 ≤ length l)
+
+abbrev pub Reads : (l : List ℕ) → Walk → Step → Type 0
+Reads l w (takeOut org dest) = OutReads l w org
+Reads l w (bringIn org dest back) = InReads l w dest back
+Reads l w (point base old new other) = PointReads l w base new
+Reads l w (close unit) = Unit {0}
+
+-- ---- the record at the walk's end
+
+-- the step of the open unit that it left
+unfoldable pub nextStep : (l : List ℕ) → Walk → Step
+nextStep l w = getD (plan (readBegin (w .unit) (drop (w .begin) l))) (w .done) (close (w .unit))
+
+-- what is needed to read it off the log l
+pub record Ahead (l : List ℕ) (w : Walk) : Type 0 where
+  pub number : w .number < 4294967295
+  pub room : w .opened ≡ true → w .begin + 44 ≤ length l
+  pub start : w .opened ≡ true → beginOk (readBegin (w .unit) (drop (w .begin) l)) ≡ true
+  pub reads : w .opened ≡ true → Reads l w (nextStep l w)
+
+-- it repeated on the pages v: where no unit is open it is an LB, which changes none
+unfoldable pub redone : (l : List ℕ) → Walk → (v : List ℕ) → Option (List ℕ)
+redone l w v = pick (w .opened) (repeat (w .number + 1) (recordAt l w (nextStep l w)) v) (some v)
+
+-- ---- the whole log
+
+-- all records of the log l repeated on the pages v
+unfoldable pub repeated : (l v : List ℕ) → Option (List ℕ)
+repeated l v = bind (readLog l) (λ g. repeatAll (g .top .number + 1) (g .recs) v)
+
+-- r says whether that can be done, and the pages are then v′; where it cannot, nothing is said of them
+pub record Repeated (l v : List ℕ) (r : Bool) (v′ : List ℕ) : Type 0 where
+  pub said : r ≡ there (repeated l v)
+  pub left : r ≡ true → repeated l v ≡ some v′

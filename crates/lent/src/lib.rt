@@ -4,7 +4,7 @@
 ghost use mathlib.Core.Path.{_≡_};
 ghost use mathlib.Core.List.{[], _∷_};
 ghost use Rattle.field.specs.Test.{pick};
-ghost use Rattle.store.specs.Calls.{lent, left, build, flush, force, checkpoint, find, list};
+ghost use Rattle.store.specs.Calls.{lent, left, build, beginCompact, flush, force, checkpoint, find, list};
 use field::PageNo;
 use store::Listed;
 use store::Numbers;
@@ -25,6 +25,22 @@ pub extern "C" fn uhtlight_build(
         ≡ build f g (lent (now (n .entry) .used) (now (n .entry) .forced) (now (work .entry)) (now (store .entry)) (now (log .entry)) (now (records .entry))) ⌝ }
 {
     let a = store::build(*n, work, store, log, records, f, g);
+    *n = a.numbers;
+    a.reply
+}
+
+// A compact unit is begun, of leaves that hold at most `fill` records together; 0 means 12.
+#[no_mangle]
+pub extern "C" fn uhtlight_begin_compact(
+    n: &mut Numbers,
+    work: &[u8],
+    log: &mut [u8],
+    fill: u32,
+) -> u8
+    ensures begun { λ r. ⌜ left r [] (lent (now (n .exit) .used) (now (n .exit) .forced) (now (work .entry)) [] (now (log .exit)) [])
+        ≡ beginCompact fill (lent (now (n .entry) .used) (now (n .entry) .forced) (now (work .entry)) [] (now (log .entry)) []) ⌝ }
+{
+    let a = store::begin_compact(*n, work, log, fill);
     *n = a.numbers;
     a.reply
 }

@@ -4,7 +4,7 @@
 ghost use mathlib.Core.Path.{_≡_};
 ghost use mathlib.Core.List.{[], _∷_};
 ghost use Rattle.field.specs.Test.{pick};
-ghost use Rattle.store.specs.Calls.{lent, left, build, beginCompact, flush, force, checkpoint, find, list};
+ghost use Rattle.store.specs.Calls.{lent, left, build, beginCompact, beginOrder, flush, force, checkpoint, find, list};
 use field::PageNo;
 use store::Listed;
 use store::Numbers;
@@ -41,6 +41,17 @@ pub extern "C" fn uhtlight_begin_compact(
         ≡ beginCompact fill (lent (now (n .entry) .used) (now (n .entry) .forced) (now (work .entry)) [] (now (log .entry)) []) ⌝ }
 {
     let a = store::begin_compact(*n, work, log, fill);
+    *n = a.numbers;
+    a.reply
+}
+
+// A move or a swap is begun, of the first leaf that is not on its place.
+#[no_mangle]
+pub extern "C" fn uhtlight_begin_order(n: &mut Numbers, work: &[u8], log: &mut [u8]) -> u8
+    ensures begun { λ r. ⌜ left r [] (lent (now (n .exit) .used) (now (n .exit) .forced) (now (work .entry)) [] (now (log .exit)) [])
+        ≡ beginOrder (lent (now (n .entry) .used) (now (n .entry) .forced) (now (work .entry)) [] (now (log .entry)) []) ⌝ }
+{
+    let a = store::begin_order(*n, work, log);
     *n = a.numbers;
     a.reply
 }

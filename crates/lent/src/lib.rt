@@ -4,7 +4,7 @@
 ghost use mathlib.Core.Path.{_≡_};
 ghost use mathlib.Core.List.{[], _∷_};
 ghost use Rattle.field.specs.Test.{pick};
-ghost use Rattle.store.specs.Calls.{lent, left, build, beginCompact, beginOrder, flush, force, checkpoint, find, list};
+ghost use Rattle.store.specs.Calls.{lent, left, build, beginCompact, beginOrder, step, flush, force, checkpoint, find, list};
 use field::PageNo;
 use store::Listed;
 use store::Numbers;
@@ -52,6 +52,17 @@ pub extern "C" fn uhtlight_begin_order(n: &mut Numbers, work: &[u8], log: &mut [
         ≡ beginOrder (lent (now (n .entry) .used) (now (n .entry) .forced) (now (work .entry)) [] (now (log .entry)) []) ⌝ }
 {
     let a = store::begin_order(*n, work, log);
+    *n = a.numbers;
+    a.reply
+}
+
+// The next step of the open unit: its record is appended to the log, and its page change made.
+#[no_mangle]
+pub extern "C" fn uhtlight_step(n: &mut Numbers, work: &mut [u8], log: &mut [u8]) -> u8
+    ensures stepped { λ r. ⌜ left r [] (lent (now (n .exit) .used) (now (n .exit) .forced) (now (work .exit)) [] (now (log .exit)) [])
+        ≡ step (lent (now (n .entry) .used) (now (n .entry) .forced) (now (work .entry)) [] (now (log .entry)) []) ⌝ }
+{
+    let a = store::step(*n, work, log);
     *n = a.numbers;
     a.reply
 }

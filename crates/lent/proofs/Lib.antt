@@ -3,3 +3,4 @@ pub mod Outer
 pub mod OfReply
 pub mod OfFound
 pub mod OfListed
+pub mod OfRecovered

@@ -4,10 +4,11 @@
 ghost use mathlib.Core.Path.{_≡_};
 ghost use mathlib.Core.List.{[], _∷_};
 ghost use Rattle.field.specs.Test.{pick};
-ghost use Rattle.store.specs.Calls.{lent, left, build, beginCompact, beginOrder, step, flush, force, checkpoint, find, list};
+ghost use Rattle.store.specs.Calls.{lent, left, build, recover, beginCompact, beginOrder, step, flush, force, checkpoint, find, list};
 use field::PageNo;
 use store::Listed;
 use store::Numbers;
+use store::Recovered;
 use tree::find::Found;
 
 // A tree of these records, in work and store alike, and a new log.
@@ -27,6 +28,22 @@ pub extern "C" fn uhtlight_build(
     let a = store::build(*n, work, store, log, records, f, g);
     *n = a.numbers;
     a.reply
+}
+
+// The work pages from the store and the log: what the log holds is repeated, an open unit finished.
+#[no_mangle]
+pub extern "C" fn uhtlight_recover(
+    n: &mut Numbers,
+    work: &mut [u8],
+    store: &[u8],
+    log: &mut [u8],
+) -> Recovered
+    ensures recovered { λ r. ⌜ left (r .reply) (r .count ∷ []) (lent (now (n .exit) .used) (now (n .exit) .forced) (now (work .exit)) (now (store .entry)) (now (log .exit)) [])
+        ≡ recover (lent (now (n .entry) .used) (now (n .entry) .forced) (now (work .entry)) (now (store .entry)) (now (log .entry)) []) ⌝ }
+{
+    let a = store::recover(*n, work, store, log);
+    *n = a.numbers;
+    a.recovered
 }
 
 // A compact unit is begun, of leaves that hold at most `fill` records together; 0 means 12.

@@ -4,6 +4,7 @@ ghost use Rattle.store.specs.Knows.{knows};
 use log::scan::Scan;
 
 // Bytes used and bytes forced of the log.
+#[repr(C)]
 pub struct Numbers {
     pub used: u32,
     pub forced: u32,

@@ -7,6 +7,7 @@ use crate::known;
 use crate::known::Numbers;
 
 // How many records were written, and whether more remain.
+#[repr(C)]
 pub struct Listed {
     pub reply: u8,
     pub count: u32,

@@ -12,6 +12,7 @@ use crate::known::Numbers;
 use log::scan::Walk;
 
 // The reply, and how many records were appended.
+#[repr(C)]
 pub struct Recovered {
     pub reply: u8,
     pub count: u32,

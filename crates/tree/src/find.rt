@@ -18,6 +18,7 @@ pub enum Way {
 }
 
 // What find returns: its reply, and the ten value bytes, zeros where there is none.
+#[repr(C)]
 pub struct Found {
     pub reply: u8,
     pub value: [u8; 10],

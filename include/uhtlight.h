@@ -1,0 +1,155 @@
+/* Uhtlight: a store of 64 flash pages that tidies itself and may lose power between any two flash writes.
+ *
+ * WHAT IT PROMISES
+ *
+ * 1. Every call takes any bytes and any numbers, ends, stays within its buffers and refuses bad input with a number.
+ * 2. Every call does exactly what its definition says: reply, values, numbers and every byte of each buffer. A refusal changes nothing, but a
+ *    refused recovery (unless it is refused with UHTLIGHT_LENGTH) leaves the work pages zero.
+ * 3. From a finished build, after any calls and any cuts, recovery is accepted; it leaves a well-formed tree with exactly the records of the
+ *    start, and every unit that was begun and not lost with the log's end is complete.
+ *
+ * Each is a theorem about the code in the library; docs/PROMISE.md says the third in full.
+ *
+ * WHAT YOU KEEP
+ *
+ *   work    16,384 bytes of RAM: the pages as they are now
+ *   store   16,384 bytes: the pages as they are on the chip
+ *   log      8,192 bytes: the log, records one after the other, zeros behind
+ *   numbers  how many bytes of the log are used, and how many of these are forced
+ *
+ * Every call is lent what it needs and keeps nothing. The library has no memory of its own, and allocates none.
+ *
+ * WHAT THE CHIP MUST DO
+ *
+ * - A page that is programmed is whole: after a cut it is the old page or the new one.
+ * - The log keeps whole records from its front, in order; bytes that are not yet programmed read as zeros. A cut may lose unforced records from
+ *   the log's end, none before it, and no forced one.
+ * - A checkpoint's log replaces the old one in one piece: after a cut it is the old log or the new one. (With two areas for the log: the new
+ *   check record goes to the area that is not in use; the area whose check record has the larger number is the log.)
+ *
+ * THE ORDER OF WRITES
+ *
+ * The calls change buffers; you program the chip. In this order:
+ *
+ *   begin, step   they append one record to the log. It may be programmed at once, later, or with others; always in the log's order.
+ *   force         first program the log's bytes up to numbers.used, then call it: it sets numbers.forced to numbers.used.
+ *   flush         call it for a page, then program that page of the store. It is refused with UHTLIGHT_UNFORCED while the record that changed
+ *                 the page last is not forced.
+ *   checkpoint    when all work pages are flushed and programmed: call it, then replace the chip's log by the new one.
+ *
+ * AT WAKE      read store and log from the chip, call uhtlight_recover. It finishes a unit that a cut has interrupted, so the log may be longer
+ *              than the chip's: program it with the next force.
+ * BEFORE SLEEP until UHTLIGHT_NOTHING: uhtlight_begin_compact, then uhtlight_step until UHTLIGHT_CLOSED; the same with uhtlight_begin_order.
+ *              On UHTLIGHT_ROOM: force, flush the pages that differ, checkpoint, begin again. The supply may be cut anywhere.
+ */
+#ifndef UHTLIGHT_H
+#define UHTLIGHT_H
+
+#include <stdbool.h>
+#include <stddef.h>
+#include <stdint.h>
+
+#ifdef __cplusplus
+extern "C" {
+#endif
+
+enum {
+    UHTLIGHT_PAGE = 256,          /* bytes of a page */
+    UHTLIGHT_PAGES = 64,          /* pages of a store */
+    UHTLIGHT_STORE_BYTES = 16384, /* bytes of work and store */
+    UHTLIGHT_LOG_BYTES = 8192,    /* bytes of the log */
+    UHTLIGHT_RECORD = 16,         /* bytes of a record: 'r', 'c', key (4, little-endian), value (10) */
+    UHTLIGHT_RECORDS = 840        /* records that a store holds at most */
+};
+
+/* What a call replies. */
+enum uhtlight_reply {
+    UHTLIGHT_DONE = 0,
+    UHTLIGHT_LENGTH = 1,    /* a lent buffer has the wrong length */
+    UHTLIGHT_LOG = 2,       /* the log's form is broken, or the numbers do not fit it */
+    UHTLIGHT_FORM = 3,      /* a page read breaks page form */
+    UHTLIGHT_AHEAD = 4,     /* a store page is newer than the log's last record */
+    UHTLIGHT_MISFIT = 5,    /* a record does not fit its page */
+    UHTLIGHT_ROOM = 6,      /* the log cannot hold the whole unit: flush and checkpoint */
+    UHTLIGHT_NUMBER = 7,    /* a log or unit number would pass 4,294,967,295 */
+    UHTLIGHT_TREE = 8,      /* the tree is not well formed */
+    UHTLIGHT_OPEN = 9,      /* a unit is open: step to its end first */
+    UHTLIGHT_CLOSED = 10,   /* no unit is open */
+    UHTLIGHT_NOTHING = 11,  /* nothing left to tidy */
+    UHTLIGHT_RANGE = 12,    /* a fill or page number is out of range, or record bytes are no multiple of 16 */
+    UHTLIGHT_UNFORCED = 13, /* the page's last record is not forced */
+    UHTLIGHT_DIFFERS = 14,  /* a work page differs from the store */
+    UHTLIGHT_ABSENT = 15,   /* no record has this key */
+    UHTLIGHT_RECORD_BAD = 16, /* a record's mark is wrong, or keys do not ascend */
+    UHTLIGHT_LARGE = 17     /* too many records: over 56 leaves or 7 base pages */
+};
+
+/* Bytes of the log that are used, and that are forced. Lent to every call, which updates it. */
+struct uhtlight_numbers {
+    uint32_t used;
+    uint32_t forced;
+};
+
+struct uhtlight_recovered {
+    uint8_t reply;
+    uint32_t count; /* records appended to finish a unit, at most 25 */
+};
+
+struct uhtlight_found {
+    uint8_t reply;
+    uint8_t value[10]; /* zeros beside a refusal */
+};
+
+struct uhtlight_listed {
+    uint8_t reply;
+    uint32_t count; /* records written */
+    bool more;      /* records in range that did not fit remain */
+};
+
+/* A buffer is two arguments: where it begins and how many bytes are lent. */
+
+/* Makes a tree of the records, which ascend by key, in work and store alike, with a new log. leaf_fill 1..15 records a leaf, base_fill 1..30
+ * leaves a base page. Replies 0, LENGTH, RANGE, RECORD_BAD, LARGE. */
+uint8_t uhtlight_build(struct uhtlight_numbers *numbers, uint8_t *work, size_t work_bytes, uint8_t *store, size_t store_bytes, uint8_t *log,
+    size_t log_bytes, const uint8_t *records, size_t records_bytes, uint32_t leaf_fill, uint32_t base_fill);
+
+/* Copies store to work, repeats what the log holds beyond it, and finishes an open unit. Whatever work and numbers were is ignored.
+ * Replies 0, LENGTH, LOG, FORM, AHEAD, MISFIT, ROOM, NUMBER, TREE. */
+struct uhtlight_recovered uhtlight_recover(struct uhtlight_numbers *numbers, uint8_t *work, size_t work_bytes, const uint8_t *store,
+    size_t store_bytes, uint8_t *log, size_t log_bytes);
+
+/* Begins a unit that packs thin leaves together: fill 1..15 records a leaf, 0 means 12.
+ * Replies 0, LENGTH, LOG, RANGE, OPEN, FORM, TREE, NOTHING, ROOM, NUMBER. */
+uint8_t uhtlight_begin_compact(struct uhtlight_numbers *numbers, const uint8_t *work, size_t work_bytes, uint8_t *log, size_t log_bytes, uint32_t fill);
+
+/* Begins a unit that puts a leaf where it belongs in key order. Replies 0, LENGTH, LOG, OPEN, FORM, TREE, NOTHING, ROOM, NUMBER. */
+uint8_t uhtlight_begin_order(struct uhtlight_numbers *numbers, const uint8_t *work, size_t work_bytes, uint8_t *log, size_t log_bytes);
+
+/* The open unit's next step: one record, one page changed. Replies 0, LENGTH, LOG, CLOSED, FORM, MISFIT, ROOM, NUMBER. */
+uint8_t uhtlight_step(struct uhtlight_numbers *numbers, uint8_t *work, size_t work_bytes, uint8_t *log, size_t log_bytes);
+
+/* Copies one work page to the store. Replies 0, LENGTH, LOG, RANGE, UNFORCED. */
+uint8_t uhtlight_flush(struct uhtlight_numbers *numbers, const uint8_t *work, size_t work_bytes, uint8_t *store, size_t store_bytes,
+    const uint8_t *log, size_t log_bytes, uint32_t page);
+
+/* The log is programmed as far as it is used. Replies 0, LENGTH, LOG. */
+uint8_t uhtlight_force(struct uhtlight_numbers *numbers, const uint8_t *log, size_t log_bytes);
+
+/* Replaces the log by one check record; clear: what was passed by as too full to pack comes again. Replies 0, LENGTH, LOG, OPEN, DIFFERS, NUMBER. */
+uint8_t uhtlight_checkpoint(struct uhtlight_numbers *numbers, const uint8_t *work, size_t work_bytes, const uint8_t *store, size_t store_bytes,
+    uint8_t *log, size_t log_bytes, bool clear);
+
+/* The value of the record with this key. Replies 0, LENGTH, LOG, OPEN, FORM, ABSENT. */
+struct uhtlight_found uhtlight_find(struct uhtlight_numbers *numbers, const uint8_t *work, size_t work_bytes, const uint8_t *log, size_t log_bytes,
+    uint32_t key);
+
+/* The records with keys low to high, both included, in key order, as many as fit whole into room; bytes behind them stay.
+ * Replies 0, LENGTH, LOG, OPEN, FORM, TREE. */
+struct uhtlight_listed uhtlight_list(struct uhtlight_numbers *numbers, const uint8_t *work, size_t work_bytes, const uint8_t *log, size_t log_bytes,
+    uint32_t low, uint32_t high, uint8_t *room, size_t room_bytes);
+
+#ifdef __cplusplus
+}
+#endif
+
+#endif

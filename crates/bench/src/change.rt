@@ -28,7 +28,7 @@ fn recover(at: State, work: &mut [u8], store: &[u8], log: &mut [u8]) -> State {
     let s = state::least(lent.store, store);
     let l = state::least(lent.log, log);
     let numbers = at.numbers;
-    let a = store::recover(numbers, &mut work[..w], &store[..s], &mut log[..l]);
+    let a = forward::recover(numbers, &mut work[..w], &store[..s], &mut log[..l]);
     output::recovered(at, a)
 }
 
@@ -61,7 +61,7 @@ fn step(at: State, work: &mut [u8], log: &mut [u8]) -> State {
     let w = state::least(lent.work, work);
     let l = state::least(lent.log, log);
     let numbers = at.numbers;
-    let a = store::step(numbers, &mut work[..w], &mut log[..l]);
+    let a = forward::step(numbers, &mut work[..w], &mut log[..l]);
     output::replied(at, a)
 }
 

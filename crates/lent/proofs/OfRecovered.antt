@@ -3,10 +3,10 @@
 use mathlib.Core.Path.{ap}
 use denote.Steps.{only}
 use denote.Struct.Laws as SL
-use Rattle.store.proofs.recovering.RecoverAnswer as A
-use Rattle.store.proofs.recovering.RecoverAnswer.Laws as A′
-use Rattle.store.proofs.recovering.Recovered as X
-use Rattle.store.proofs.recovering.Recovered.Laws as X′
+use Rattle.forward.proofs.recovering.RecoverAnswer as A
+use Rattle.forward.proofs.recovering.RecoverAnswer.Laws as A′
+use Rattle.forward.proofs.recovering.Recovered as X
+use Rattle.forward.proofs.recovering.Recovered.Laws as X′
 use Rattle.lent.proofs.Outer.{Answered}
 
 abbrev pub ofRecovered : Answered

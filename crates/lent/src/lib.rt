@@ -6,9 +6,9 @@ ghost use mathlib.Core.List.{[], _∷_};
 ghost use Rattle.field.specs.Test.{pick};
 ghost use Rattle.store.specs.Calls.{lent, left, build, recover, beginCompact, beginOrder, step, flush, force, checkpoint, find, list};
 use field::PageNo;
+use forward::Recovered;
 use store::Listed;
 use store::Numbers;
-use store::Recovered;
 use tree::find::Found;
 
 // A tree of these records, in work and store alike, and a new log.
@@ -41,7 +41,7 @@ pub extern "C" fn uhtlight_recover(
     ensures recovered { λ r. ⌜ left (r .reply) (r .count ∷ []) (lent (now (n .exit) .used) (now (n .exit) .forced) (now (work .exit)) (now (store .entry)) (now (log .exit)) [])
         ≡ recover (lent (now (n .entry) .used) (now (n .entry) .forced) (now (work .entry)) (now (store .entry)) (now (log .entry)) []) ⌝ }
 {
-    let a = store::recover(*n, work, store, log);
+    let a = forward::recover(*n, work, store, log);
     *n = a.numbers;
     a.recovered
 }
@@ -79,7 +79,7 @@ pub extern "C" fn uhtlight_step(n: &mut Numbers, work: &mut [u8], log: &mut [u8]
     ensures stepped { λ r. ⌜ left r [] (lent (now (n .exit) .used) (now (n .exit) .forced) (now (work .exit)) [] (now (log .exit)) [])
         ≡ step (lent (now (n .entry) .used) (now (n .entry) .forced) (now (work .entry)) [] (now (log .entry)) []) ⌝ }
 {
-    let a = store::step(*n, work, log);
+    let a = forward::step(*n, work, log);
     *n = a.numbers;
     a.reply
 }

@@ -1,4 +1,4 @@
--- Laws about the calls' definitions: refusals, each way through a call's tests, one step of an open unit, and recovery's finishing.
+-- Laws about the calls' definitions: refusals, and each way through a call's tests.
 pub mod Refusals
 pub mod Chain
 pub mod Builds
@@ -11,10 +11,3 @@ pub mod Ending
 pub mod Replaces
 pub mod Units
 pub mod Begins
-pub mod Stands
-pub mod Appends
-pub mod Newer
-pub mod Grows
-pub mod Finishing
-pub mod Recovers
-pub mod Steps

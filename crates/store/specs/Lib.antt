@@ -3,5 +3,3 @@ pub mod Calls
 pub mod Begins
 pub mod Knows
 pub mod Ranges
-pub mod Appends
-pub mod Finishes

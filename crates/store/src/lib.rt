@@ -1,17 +1,14 @@
 // The public calls, over slices and numbers by value. None has a `requires`: each tests what it is lent, in the order of document 01's
-// table, and its contract says that all it leaves is what its definition in specs/Calls.antt leaves.
-mod appending;
+// table, and its contract says that all it leaves is what its definition in specs/Calls.antt leaves. Step and recovery are in `forward`.
 mod beginning;
 mod building;
 mod checkpointing;
 mod flushing;
 mod forcing;
 mod fresh;
-mod known;
+pub mod known;
 mod listing;
 mod looking;
-mod recovering;
-mod stepping;
 
 pub use beginning::begin_compact;
 pub use beginning::begin_order;
@@ -26,7 +23,3 @@ pub use listing::Listed;
 pub use listing::list;
 pub use looking::FindAnswer;
 pub use looking::find;
-pub use recovering::RecoverAnswer;
-pub use recovering::Recovered;
-pub use recovering::recover;
-pub use stepping::step;

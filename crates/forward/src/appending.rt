@@ -1,0 +1,147 @@
+// One step of the unit that is open at the log's end: its record is appended to the log and its page change made, or a reply of tests 5, 6
+// and 7 and nothing changed. `step` and recovery's finishing are made of it. Each function is lent the log whole, and w is what one pass over
+// it knows at its end.
+ghost use mathlib.Core.Path.{_≡_};
+ghost use Prim.Native.Nat.{_+_};
+ghost use lib.ListN.{length};
+ghost use Rattle.log.specs.Plan.{takeOut, bringIn, point, close};
+ghost use Rattle.unit.specs.Next.{room};
+ghost use Rattle.forward.specs.Appends.{appendNext, Goes, Opened, toCome, nextStep, tested};
+use field::LogNo;
+use field::PageNo;
+use log::scan::Walk;
+use log::source;
+use log::steps;
+use log::steps::Planned;
+use log::writing;
+use page::form;
+use tree::well;
+use unit::apply;
+use unit::entry;
+use unit::entry::Lowest;
+use unit::room;
+
+// Tests 6 and 7: the log can hold what remains of the unit, and the record has a number. The reply, 0 where both hold.
+fn admitted(work: &[u8], log: &[u8], w: Walk) -> u8
+    requires { ⌜ (length (now work) ≡ 16384) × (length (now log) ≡ 8192) × Opened (now log) w ⌝ }
+    ensures { λ r. ⌜ r ≡ tested (w .at + room (now (work .entry)) (toCome (now (log .entry)) w)) (w .number + 1) ⌝ }
+{
+    let begin = w.begin;
+    let rest = room::remaining(work, &log[begin..], w.unit, w.done);
+    if log.len() - w.at < rest.bytes {
+        return 6;
+    }
+    if w.number == 4294967295 {
+        return 7;
+    }
+    0
+}
+
+// An LO: page org must be a leaf; it carries all its records.
+fn append_out(work: &mut [u8], log: &mut [u8], w: Walk, org: u16, dest: u16) -> u8
+    requires { ⌜ (length (now work) ≡ 16384) × (length (now log) ≡ 8192) × Opened (now log) w × (nextStep (now log) w ≡ takeOut org dest) ⌝ }
+    ensures { λ r. ⌜ Goes (appendNext (now (work .entry)) (now (log .entry))) (now (work .entry)) (now (log .entry)) r (now (work .exit)) (now (log .exit)) ⌝ }
+{
+    let from = 256 * (org as usize);
+    if !form::is_leaf(&work[from..from + 256]) {
+        return 5;
+    }
+    let reply = admitted(work, log, w);
+    if reply != 0 {
+        return reply;
+    }
+    let n = w.number + 1;
+    let k = well::count_at(work, org as usize);
+    let first = from + 16;
+    let end = first + 16 * (k as usize);
+    writing::put_out(log, w.at, n, org, dest, k, &work[first..end]);
+    apply::take_all(work, PageNo(org as u32), LogNo(n));
+    0
+}
+
+// An LI: the records are those of its LO, which stands in the log `back` records before.
+fn append_in(work: &mut [u8], log: &mut [u8], w: Walk, org: u16, dest: u16, back: u32) -> u8
+    requires { ⌜ (length (now work) ≡ 16384) × (length (now log) ≡ 8192) × Opened (now log) w × (nextStep (now log) w ≡ bringIn org dest back) ⌝ }
+    ensures { λ r. ⌜ Goes (appendNext (now (work .entry)) (now (log .entry))) (now (work .entry)) (now (log .entry)) r (now (work .exit)) (now (log .exit)) ⌝ }
+{
+    let k = source::source_rows(w, back);
+    let first = source::source_at(w, back) + 20;
+    let end = first + 16 * (k as usize);
+    if !apply::can_bring_in(work, PageNo(dest as u32), &log[first..end], k) {
+        return 5;
+    }
+    let reply = admitted(work, log, w);
+    if reply != 0 {
+        return reply;
+    }
+    let n = w.number + 1;
+    apply::bring_in(work, PageNo(dest as u32), &log[first..end], k, LogNo(n));
+    writing::put_in(log, w.at, n, org, dest, k, back);
+    0
+}
+
+// An LM: of the lowest entry of page base to page old, but for the one that the LM before changed.
+fn append_point(
+    work: &mut [u8],
+    log: &mut [u8],
+    w: Walk,
+    base: u16,
+    old: u16,
+    new: u16,
+    other: bool,
+) -> u8
+    requires { ⌜ (length (now work) ≡ 16384) × (length (now log) ≡ 8192) × Opened (now log) w × (nextStep (now log) w ≡ point base old new other) ⌝ }
+    ensures { λ r. ⌜ Goes (appendNext (now (work .entry)) (now (log .entry))) (now (work .entry)) (now (log .entry)) r (now (work .exit)) (now (log .exit)) ⌝ }
+{
+    let from = 256 * (base as usize);
+    if !form::is_base(&work[from..from + 256]) {
+        return 5;
+    }
+    let Lowest::Key(key) = entry::lowest_at(work, base as usize, old, other, w.key) else {
+        return 5;
+    };
+    if !apply::can_modify(work, PageNo(base as u32), old, new, key) {
+        return 5;
+    }
+    let reply = admitted(work, log, w);
+    if reply != 0 {
+        return reply;
+    }
+    let n = w.number + 1;
+    apply::modify(work, PageNo(base as u32), old, new, key, LogNo(n));
+    writing::put_modify(log, w.at, n, base, old, new, key);
+    0
+}
+
+// An LE.
+fn append_close(work: &mut [u8], log: &mut [u8], w: Walk, unit: u32) -> u8
+    requires { ⌜ (length (now work) ≡ 16384) × (length (now log) ≡ 8192) × Opened (now log) w × (nextStep (now log) w ≡ close unit) ⌝ }
+    ensures { λ r. ⌜ Goes (appendNext (now (work .entry)) (now (log .entry))) (now (work .entry)) (now (log .entry)) r (now (work .exit)) (now (log .exit)) ⌝ }
+{
+    let reply = admitted(work, log, w);
+    if reply != 0 {
+        return reply;
+    }
+    writing::put_end(log, w.at, w.number + 1, unit);
+    0
+}
+
+// The next step, by its kind.
+pub fn append(work: &mut [u8], log: &mut [u8], w: Walk) -> u8
+    requires { ⌜ (length (now work) ≡ 16384) × (length (now log) ≡ 8192) × Opened (now log) w ⌝ }
+    ensures { λ r. ⌜ Goes (appendNext (now (work .entry)) (now (log .entry))) (now (work .entry)) (now (log .entry)) r (now (work .exit)) (now (log .exit)) ⌝ }
+{
+    let begin = w.begin;
+    let x = steps::step_at(&log[begin..], w.unit, w.done);
+    match x {
+        Planned::Out { org, dest } => append_out(work, log, w, org, dest),
+        Planned::In { org, dest, back } => append_in(work, log, w, org, dest, back),
+        Planned::Point {
+            base,
+            old,
+            new,
+            other,
+        } => append_point(work, log, w, base, old, new, other),
+        Planned::Close { unit } => append_close(work, log, w, unit),
+    }
+}

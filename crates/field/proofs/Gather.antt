@@ -25,7 +25,7 @@ unfolding allZero
 zero-append [] b = sym (both-true true (allZero b) refl)
 zero-append (x ∷ xs) b = ap (both (eqb x 0)) (zero-append xs b) ∙ sym (both-assoc (eqb x 0) (allZero xs) (allZero b))
 
-zero-cut : (o n m : ℕ) (l : List ℕ) → allZero (part o (n + m) l) ≡ both (allZero (part o n l)) (allZero (part (o + n) m l))
+pub zero-cut : (o n m : ℕ) (l : List ℕ) → allZero (part o (n + m) l) ≡ both (allZero (part o n l)) (allZero (part (o + n) m l))
 zero-cut o n m l = ap allZero (part-add o n m l) ∙ zero-append (part o n l) (part (o + n) m l)
 
 pub zero-take : (n : ℕ) (l : List ℕ) → allZero l ≡ true → allZero (take n l) ≡ true
@@ -54,9 +54,9 @@ one : (l : List ℕ) (i : ℕ) → i < length l → eqb (getD l i 0) 0 ≡ allZe
 unfolding part allZero
 one l i h = rw (drop-cons l i 0 h) (sym (both-end (eqb (getD l i 0) 0)))
 
-two : (l : List ℕ) (i : ℕ) → i + 2 ≤ length l → eqb (le2 l i) 0 ≡ allZero (part i 2 l)
+pub zero-pair : (l : List ℕ) (i : ℕ) → i + 2 ≤ length l → eqb (le2 l i) 0 ≡ allZero (part i 2 l)
 unfolding le2
-two l i h =
+zero-pair l i h =
     zero-two (getD l i 0) (getD l (i + 1) 0) (getD l i 0 + 256 * getD l (i + 1) 0) (omega arith) (omega arith) (λ p q. omega arith)
     ∙ ap₂ both (one l i (omega arith)) (one l (i + 1) (omega arith))
     ∙ sym (zero-cut i 1 1 l)
@@ -65,7 +65,7 @@ four : (l : List ℕ) (i : ℕ) → i + 4 ≤ length l → eqb (le4 l i) 0 ≡ a
 four l i h =
     rw (le4-halves l i)
     (zero-two (le2 l i) (le2 l (i + 2)) (le2 l i + 65536 * le2 l (i + 2)) (omega arith) (omega arith) (λ p q. omega arith)
-    ∙ ap₂ both (two l i (omega arith)) (two l (i + 2) (omega arith))
+    ∙ ap₂ both (zero-pair l i (omega arith)) (zero-pair l (i + 2) (omega arith))
     ∙ sym (zero-cut i 2 2 l))
 
 eight : (l : List ℕ) (i : ℕ) → i + 8 ≤ length l → eqb (le4 l i + 4294967296 * le4 l (i + 4)) 0 ≡ allZero (part i 8 l)

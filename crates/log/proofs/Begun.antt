@@ -1,4 +1,4 @@
--- The ways through the test of a begin record, for `search`. Assumes nothing.
+-- The ways through the test of a begin record and of its unused fields, for `search`. Assumes nothing.
 use Prim.Native.Nat.{ℕ, _+_, _-_, _*_, _≤_, _<_}
 use native.Mathlib.Omega.{arith}
 use mathlib.Core.Path.{_≡_, refl, sym, ap, _∙_}
@@ -14,6 +14,7 @@ use Rattle.field.proofs.Test.{both-true, both-false, both-end, both-assoc}
 use Rattle.field.proofs.Number.{bytes2-le2, length-bytes2, le2-drop}
 use Rattle.field.proofs.Part.{part-drop, length-part}
 use Rattle.field.proofs.Byte.{bytes-drop}
+use Rattle.field.proofs.Gather.{zero-cut, zero-pair}
 use Rattle.page.proofs.Rows.{Each}
 use Rattle.log.specs.Record.{Begin, Rec, LB, begin, lengthOf, kindOf, carried, size, header, fields, body, previous, encode}
 use Rattle.log.specs.Table.{kinds, kindAt}
@@ -25,6 +26,38 @@ use Rattle.log.proofs.Begin.{Limits, typeOk-limits, beginOk-limits}
 use Rattle.log.proofs.Fields.{all-fail, length-readFields}
 use Rattle.log.proofs.Starts.{starts-cat, starts-part, starts-fields, starts-zeroes}
 use Rattle.log.proofs.Stand.{put-front-is, both-none}
+
+-- ---- the loop over fields that must be zero, for `search`: its start, a turn, its ends
+
+module _ (l : List ℕ) (start n : ℕ) where
+  pub unused-none! : allZero (part start (2 * n) l) ≡ allZero (part (start + 2 * 0) (2 * (n - 0)) l)
+  unused-none! =
+      let o : start + 2 * 0 ≡ start = omega arith in
+      let k : n - 0 ≡ n = omega arith in
+      rw (o, k)
+
+  module _ (i : ℕ) (e : allZero (part start (2 * n) l) ≡ allZero (part (start + 2 * i) (2 * (n - i)) l)) where
+    pub unused-end! : n ≤ i → true ≡ allZero (part start (2 * n) l)
+    unfolding part allZero
+    unused-end! h = let k : 2 * (n - i) ≡ 0 = omega arith in sym (e ∙ rw k)
+
+    module _ (h : i < n) (room : start + 2 * n ≤ length l) (x : ℕ) (q : x ≡ le2 l (start + 2 * i)) where
+      field-first : allZero (part start (2 * n) l) ≡ both (eqb x 0) (allZero (part (start + 2 * (i + 1)) (2 * (n - (i + 1))) l))
+      field-first =
+          let k : 2 * (n - i) ≡ 2 + 2 * (n - (i + 1)) = omega arith in
+          let o : start + 2 * i + 2 ≡ start + 2 * (i + 1) = omega arith in
+          let cut : allZero (part (start + 2 * i) (2 * (n - i)) l) ≡ both (allZero (part (start + 2 * i) 2 l)) (allZero (part (start + 2 * (i + 1)) (2 * (n - (i + 1))) l)) =
+          rw (k, ← o) (zero-cut (start + 2 * i) 2 (2 * (n - (i + 1))) l) in
+          let one : allZero (part (start + 2 * i) 2 l) ≡ eqb x 0 = sym (rw q (zero-pair l (start + 2 * i) (omega arith))) in
+          e ∙ cut ∙ ap (λ (t : Bool). both t (allZero (part (start + 2 * (i + 1)) (2 * (n - (i + 1))) l))) one
+
+      pub unused-stop! : (x ≡ 0 → ⊥) → false ≡ allZero (part start (2 * n) l)
+      unused-stop! f = sym (field-first ∙ both-false _ _ (ne-eqb x 0 f))
+
+      pub unused-more! : x ≡ 0 → allZero (part start (2 * n) l) ≡ allZero (part (start + 2 * (i + 1)) (2 * (n - (i + 1))) l)
+      unused-more! f = field-first ∙ both-true _ _ (eq-eqb x 0 f)
+
+-- ---- a begin record
 
 module _ (m : List ℕ) where
   -- the counts of pages that the type allows
@@ -134,27 +167,29 @@ module _ (m : List ℕ) where
   -- ---- the zeros that a begin record leaves
 
   spareTests : (v w : ℕ) → List Bool
-  spareTests v w =
-      allZero (take (24 - (20 + 2 * v)) (drop (20 + 2 * v) m)) ∷ allZero (take (40 - (24 + 2 * w)) (drop (24 + 2 * w) m)) ∷ allZero (take 2 (drop 42 m)) ∷ []
+  spareTests v w = allZero (part (20 + 2 * v) (2 * (2 - v)) m) ∷ allZero (part (24 + 2 * w) (2 * (8 - w)) m) ∷ allZero (part 42 2 m) ∷ []
 
   spare-is : all (spareTests (getD m 18 0) (getD m 19 0)) ≡ spareZero m
-  unfolding spareTests spareZero part
-  spare-is = refl
+  unfolding spareTests spareZero
+  spare-is =
+      let b : 24 - (20 + 2 * getD m 18 0) ≡ 2 * (2 - getD m 18 0) = omega arith in
+      let c : 40 - (24 + 2 * getD m 19 0) ≡ 2 * (8 - getD m 19 0) = omega arith in
+      rw (b, c)
 
   module _ (v w : ℕ) (p : v ≡ getD m 18 0) (q : w ≡ getD m 19 0) (x : Bool) where
     spare-of : all (spareTests v w) ≡ spareZero m
     spare-of = rw (p, q) spare-is
 
-    pub spare-bases! : x ≡ allZero (take (24 - (20 + 2 * v)) (drop (20 + 2 * v) m)) → not x ≡ true → false ≡ spareZero m
+    pub spare-bases! : x ≡ allZero (part (20 + 2 * v) (2 * (2 - v)) m) → not x ≡ true → false ≡ spareZero m
     unfolding spareTests
     spare-bases! e h = all-fail (spareTests v w) 0 (sym e ∙ not-true x h) ∙ spare-of
 
-    pub spare-leaves! : x ≡ allZero (take (40 - (24 + 2 * w)) (drop (24 + 2 * w) m)) → not x ≡ true → false ≡ spareZero m
+    pub spare-leaves! : x ≡ allZero (part (24 + 2 * w) (2 * (8 - w)) m) → not x ≡ true → false ≡ spareZero m
     unfolding spareTests
     spare-leaves! e h = all-fail (spareTests v w) 1 (sym e ∙ not-true x h) ∙ spare-of
 
-    pub spare-rest! : x ≡ allZero (take 2 (drop 42 m)) → (y z : Bool) → y ≡ allZero (take (24 - (20 + 2 * v)) (drop (20 + 2 * v) m)) → not y ≡ false
-        → z ≡ allZero (take (40 - (24 + 2 * w)) (drop (24 + 2 * w) m)) → not z ≡ false → x ≡ spareZero m
+    pub spare-rest! : x ≡ allZero (part 42 2 m) → (y z : Bool) → y ≡ allZero (part (20 + 2 * v) (2 * (2 - v)) m) → not y ≡ false
+        → z ≡ allZero (part (24 + 2 * w) (2 * (8 - w)) m) → not z ≡ false → x ≡ spareZero m
     unfolding spareTests all both
     spare-rest! e y z f hy g hz = sym (sym spare-of ∙ rw (← f, ← g, ← e, not-false y hy, not-false z hz) (both-end x))
 

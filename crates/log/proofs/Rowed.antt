@@ -1,6 +1,7 @@
--- The ways through the test of an LO, and the loop that finds the largest key of rows, for `search`. Assumes nothing.
+-- The ways through the test of an LO, for `search`, and the largest key of its rows. Assumes nothing.
 use Prim.Native.Nat.{ℕ, zero, suc, _+_, _-_, _*_, _≤_, _<_}
 use native.Mathlib.Nat.{not-suc-le-zero}
+use native.Mathlib.Numerals.{sub-one}
 use native.Mathlib.Omega.{arith}
 use mathlib.Core.Path.{_≡_, refl, sym, ap, _∙_}
 use mathlib.Core.Bool.{Bool, true, false, not}
@@ -10,10 +11,11 @@ use lib.Dec.{eqb, leb}
 use borrow.Author.Tests.{eq-eqb, ne-eqb, le-leb, lt-leb, not-true, not-false}
 use Rattle.field.specs.Test.{both, all, pick}
 use Rattle.field.specs.Bytes.{part, put, starts, le2, le4, bytes2, bytes4, most4}
-use Rattle.field.proofs.Test.{both-true, both-false, both-end}
+use Rattle.field.proofs.Test.{both-true, both-false, both-end, pick-true, pick-false}
+use Rattle.field.proofs.Part.{split, part-drop}
 use Rattle.page.specs.Page.{rowsOf, joined, keyOf, ascend, ascendRecords}
 use Rattle.page.proofs.Rows.{joined-rowsOf, length-rowsOf, key-row}
-use Rattle.page.proofs.Turns.{rows-next}
+use Rattle.page.proofs.Order.{First, ascend-facts}
 use Rattle.log.specs.Record.{Rec, LO, lengthOf, kindOf, carried, size, header, encode}
 use Rattle.log.specs.Table.{kinds, kindAt}
 use Rattle.log.specs.Write.{paged}
@@ -24,26 +26,53 @@ use Rattle.log.proofs.Fields.{all-fail}
 use Rattle.log.proofs.Starts.{starts-cat, starts-part}
 use Rattle.log.proofs.Stand.{put-front-is, both-none}
 
--- ---- the largest key
+-- ---- the largest key of rows that ascend is that of the last
 
-no-rows : (n : ℕ) (l : List ℕ) → n ≤ 0 → rowsOf 16 n l ≡ []
+lastOf : List ℕ → List (List ℕ) → List ℕ
+lastOf r [] = r
+lastOf r (s ∷ ss) = lastOf s ss
+
+-- a row's key is no larger than the last one's
+last-low : (lo : ℕ) (r : List ℕ) (rs : List (List ℕ)) → ascend 114 99 lo (r ∷ rs) ≡ true → lo ≤ keyOf (lastOf r rs)
+unfolding lastOf
+last-low lo r [] e = ascend-facts 114 99 lo r [] e .low
+last-low lo r (s ∷ ss) e =
+    let f : First 114 99 lo r (s ∷ ss) = ascend-facts 114 99 lo r (s ∷ ss) e in
+    let d : keyOf r + 1 ≤ keyOf (lastOf s ss) = last-low (keyOf r + 1) s ss (f .after) in
+    omega (arith, f .low)
+
+-- the larger of a number and a key, then of that and a later key
+larger-twice : (m j k : ℕ) → j ≤ k → pick (leb (pick (leb m j) j m) k) k (pick (leb m j) j m) ≡ pick (leb m k) k m
+larger-twice m j k h =
+    split j m
+    (λ g. rw (pick-false (leb m j) j m (lt-leb m j g)))
+    (λ g. rw (pick-true (leb m j) j m (le-leb m j g)) (pick-true (leb j k) k j (le-leb j k h) ∙ sym (pick-true (leb m k) k m (le-leb m k (omega arith)))))
+
+largest-last : (m lo : ℕ) (r : List ℕ) (rs : List (List ℕ)) → ascend 114 99 lo (r ∷ rs) ≡ true
+    → largest m (r ∷ rs) ≡ pick (leb m (keyOf (lastOf r rs))) (keyOf (lastOf r rs)) m
+unfolding largest lastOf
+largest-last m lo r [] e = refl
+largest-last m lo r (s ∷ ss) e =
+    let f : First 114 99 lo r (s ∷ ss) = ascend-facts 114 99 lo r (s ∷ ss) e in
+    let d : keyOf r + 1 ≤ keyOf (lastOf s ss) = last-low (keyOf r + 1) s ss (f .after) in
+    largest-last (pick (leb m (keyOf r)) (keyOf r) m) (keyOf r + 1) s ss (f .after) ∙ larger-twice m (keyOf r) (keyOf (lastOf s ss)) (omega arith)
+
+-- where the last of n + 1 rows stands
+last-row : (n : ℕ) (l : List ℕ) → lastOf (take 16 l) (rowsOf 16 n (drop 16 l)) ≡ part (16 * n) 16 l
+unfolding rowsOf lastOf
+last-row zero l = unfold part in refl
+last-row (suc n) l =
+    let e : 16 * suc n ≡ 16 + 16 * n = omega arith in
+    last-row n (drop 16 l) ∙ part-drop 16 (16 * n) 16 l ∙ rw e
+
+pub largest-key! : (m start n : ℕ) (l : List ℕ) → 1 ≤ n → ascend 114 99 0 (rowsOf 16 n (drop start l)) ≡ true
+    → (k v : ℕ) → k ≡ le4 l (start + 16 * (n - 1) + 2) → v ≡ pick (leb m k) k m → v ≡ largest m (rowsOf 16 n (drop start l))
 unfolding rowsOf
-no-rows zero l h = refl
-no-rows (suc n) l h = absurd (not-suc-le-zero h)
-
-module _ (most n at most₀ n₀ at₀ : ℕ) (l : List ℕ) (e : largest most₀ (rowsOf 16 n₀ (drop at₀ l)) ≡ largest most (rowsOf 16 n (drop at l))) where
-  pub largest-end! : n ≤ 0 → most ≡ largest most₀ (rowsOf 16 n₀ (drop at₀ l))
-  unfolding largest
-  largest-end! h = sym (e ∙ rw (no-rows n (drop at l) h))
-
-  pub largest-more! : (k v : ℕ) → k ≡ le4 l (at + 2) → v ≡ pick (leb most k) k most → 0 < n
-      → largest most₀ (rowsOf 16 n₀ (drop at₀ l)) ≡ largest v (rowsOf 16 (n - 1) (drop (at + 16) l))
-  unfolding largest
-  largest-more! k v q w h =
-      let r : List (List ℕ) = rowsOf 16 (n - 1) (drop (at + 16) l) in
-      let b : keyOf (part at 16 l) ≡ k = key-row 16 at l (omega arith) ∙ sym q in
-      let a : largest most (part at 16 l ∷ r) ≡ largest (pick (leb most (keyOf (part at 16 l))) (keyOf (part at 16 l)) most) r = refl in
-      e ∙ ap (largest most) (rows-next 16 n at l h) ∙ a ∙ ap (λ (x : ℕ). largest (pick (leb most x) x most) r) b ∙ ap (λ (x : ℕ). largest x r) (sym w)
+largest-key! m start zero l h e k v p q = absurd (not-suc-le-zero h)
+largest-key! m start (suc n) l h e k v p q =
+    let at : keyOf (lastOf (take 16 (drop start l)) (rowsOf 16 n (drop 16 (drop start l)))) ≡ k =
+    ap keyOf (last-row n (drop start l) ∙ part-drop start (16 * n) 16 l) ∙ key-row 16 (start + 16 * n) l (omega arith) ∙ sym (p ∙ rw sub-one) in
+    q ∙ sym (largest-last m 0 (take 16 (drop start l)) (rowsOf 16 n (drop 16 (drop start l))) e ∙ rw at)
 
 -- ---- an LO
 

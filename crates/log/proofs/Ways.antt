@@ -12,7 +12,7 @@ use borrow.Author.Tests.{leb-true, lt-leb, le-leb, not-true, not-false}
 use Rattle.field.specs.Test.{both, all, pick}
 use Rattle.field.specs.Bytes.{starts, le2, le4, most4}
 use Rattle.field.proofs.Test.{all-head, all-tail, both-1, both-2, both-false, pick-true, pick-false}
-use Rattle.page.specs.Page.{rowsOf, ascendRecords}
+use Rattle.page.specs.Page.{rowsOf, ascend, ascendRecords}
 use Rattle.page.proofs.Rows.{length-rowsOf}
 use Rattle.log.specs.Record.{Begin, Rec, LB, LO, LM, LE, into, lengthOf, kindOf, carried, size, encode}
 use Rattle.log.specs.Plan.{Step, takeOut, bringIn, point, close, plan}
@@ -69,6 +69,13 @@ module _ (n : ℕ) (m : List ℕ) (z : Bool) (h : not z ≡ false) where
         rw (out-size org dest) at (stands-room n (LO org dest (rowsOf 16 (le2 m 16) (drop 20 m))) m (both-2 _ _ t)),
         leb-true (le2 m 16) 15 (all-head _ _ (all-tail _ _ (both-1 _ _ t))),
       )
+
+  -- its records, of which there is one, ascend
+  pub out-rows : (org dest : ℕ) → z ≡ standsOut n org dest m → (1 ≤ le2 m 16) × (ascend 114 99 0 (rowsOf 16 (le2 m 16) (drop 20 m)) ≡ true)
+  unfolding standsOut
+  out-rows org dest e =
+      let t = both-1 _ _ (sym e ∙ not-false z h) in
+      (leb-true 1 (le2 m 16) (all-head _ _ t), all-head _ _ (all-tail _ _ (all-tail _ _ t)))
 
 -- ---- numbers that are used up
 

@@ -2,6 +2,7 @@
 ghost use mathlib.Core.Path.{_≡_};
 ghost use Prim.Native.Nat.{_+_, _-_, _*_, _≤_, _<_};
 ghost use lib.ListN.{length, drop, getD};
+ghost use Rattle.field.specs.Bytes.{part, allZero};
 ghost use Rattle.log.specs.Stand.{spareZero};
 ghost use Rattle.log.specs.Log.{within, listed, differ, compactOk, swapOk, moveOk, typeOk, beginOk, readFields, readBegin};
 
@@ -183,18 +184,33 @@ pub fn begin_ok(m: &[u8]) -> bool
     differ(m, 24, leaves)
 }
 
+// Whether n fields of two bytes from the offset start are zero.
+fn unused(m: &[u8], start: usize, n: usize) -> bool
+    requires { ⌜ start + 2 * n ≤ length (now m) ⌝ }
+    ensures { λ r. ⌜ r ≡ allZero (part start (2 * n) (now (m .entry))) ⌝ }
+{
+    let mut i = 0;
+    while i < n {
+        if field::get2(m, start + 2 * i) != 0 {
+            return false;
+        }
+        i += 1;
+    }
+    true
+}
+
 // Whether the fields that a begin record leaves unused are zero.
 pub fn spare_zero(m: &[u8]) -> bool
     requires { ⌜ (44 ≤ length (now m)) × (getD (now m) 18 0 ≤ 2) × (getD (now m) 19 0 ≤ 8) ⌝ }
     ensures { λ r. ⌜ r ≡ spareZero (now (m .entry)) ⌝ }
 {
-    let bases = 20 + 2 * byte_at(m, 18);
-    let leaves = 24 + 2 * byte_at(m, 19);
-    if !field::zeros(&m[bases..24]) {
+    let bases = byte_at(m, 18);
+    let leaves = byte_at(m, 19);
+    if !unused(m, 20 + 2 * bases, 2 - bases) {
         return false;
     }
-    if !field::zeros(&m[leaves..40]) {
+    if !unused(m, 24 + 2 * leaves, 8 - leaves) {
         return false;
     }
-    field::zeros(&m[42..44])
+    unused(m, 42, 1)
 }

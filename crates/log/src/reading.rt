@@ -1,11 +1,12 @@
 // Whether a record stands at an offset of the log: the record that must stand there is written into a few bytes, and these are compared.
 ghost use mathlib.Core.Path.{_≡_};
+ghost use mathlib.Core.Bool.{true};
 ghost use Prim.Native.Nat.{_+_, _-_, _*_, _%_, _≤_, _<_};
 ghost use lib.ListN.{length, take, drop};
 ghost use lib.Dec.{leb};
 ghost use Rattle.field.specs.Test.{pick};
 ghost use Rattle.field.specs.Bytes.{starts};
-ghost use Rattle.page.specs.Page.{rowsOf};
+ghost use Rattle.page.specs.Page.{rowsOf, ascend};
 ghost use Rattle.log.specs.Log.{largest};
 ghost use Rattle.log.specs.Record.{LE, encodeCheck};
 ghost use Rattle.log.specs.Write.{checkOf};
@@ -101,20 +102,13 @@ fn larger(a: u32, b: u32) -> u32
     a
 }
 
-// The largest key of n records of 16 bytes from the offset start, at least `from`.
+// The largest key of n records of 16 bytes from the offset start, which ascend, at least `from`: no other can be larger than the last.
 pub fn largest_key(m: &[u8], from: u32, start: usize, n: u16) -> u32
-    requires { ⌜ start + 16 * n ≤ length (now m) ⌝ }
+    requires { ⌜ (start + 16 * n ≤ length (now m)) × (1 ≤ n) × (ascend 114 99 0 (rowsOf 16 n (drop start (now m))) ≡ true) ⌝ }
     ensures { λ r. ⌜ r ≡ largest from (rowsOf 16 n (drop start (now (m .entry)))) ⌝ }
 {
-    let mut most = from;
-    let mut at = start;
-    let mut left = n;
-    while 0 < left {
-        most = larger(most, field::get4(m, at + 2));
-        at += 16;
-        left -= 1;
-    }
-    most
+    let last = start + 16 * (n as usize - 1);
+    larger(from, field::get4(m, last + 2))
 }
 
 // Whether an LO of these pages stands at the front of m, of 1 to 15 records that bear marks and ascend.

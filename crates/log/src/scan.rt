@@ -291,16 +291,16 @@ pub fn top(l: &[u8]) -> Walk
 fn noted(e: Mark, at: usize, number: u32, forced: u32) -> Mark
     ensures { λ r. ⌜ r ≡ noted e at number forced ⌝ }
 {
+    if at != forced as usize {
+        return Mark {
+            ends: e.ends,
+            number: writing::number_if(e.ends, e.number),
+        };
+    }
     if e.ends {
         return e;
     }
-    if at == forced as usize {
-        return Mark { ends: true, number };
-    }
-    Mark {
-        ends: false,
-        number: 0,
-    }
+    Mark { ends: true, number }
 }
 
 // Whether another record comes: the log's form is not broken and the byte there is not zero.

@@ -7,62 +7,41 @@ use Rattle.log.proofs.opening.spare_zero.Tie as tie
 byte-at-requires : tie.Need-byte-at-requires
 byte-at-requires c κs = search needs
 
-mul-bases : tie.Need-mul-bases
-mul-bases c = search needs
-
-add-bases : tie.Need-add-bases
-add-bases c = search needs
-
 byte-at-requires-2 : tie.Need-byte-at-requires-2
 byte-at-requires-2 c κs = search needs
 
-mul-leaves : tie.Need-mul-leaves
-mul-leaves c = search needs
+mul-unused : tie.Need-mul-unused
+mul-unused c = search needs
 
-add-leaves : tie.Need-add-leaves
-add-leaves c = search needs
+add-unused : tie.Need-add-unused
+add-unused c = search needs
 
-sub-zeros : tie.Need-sub-zeros
-sub-zeros c = search needs
+sub-unused : tie.Need-sub-unused
+sub-unused c = search needs
 
-part-zeros-start : tie.Need-part-zeros-start
-part-zeros-start c = search needs
-
-part-zeros-end : tie.Need-part-zeros-end
-part-zeros-end c = search needs
-
-zeros-requires : tie.Need-zeros-requires
-zeros-requires c κs = search needs
+unused-requires : tie.Need-unused-requires
+unused-requires c κs = search needs
 
 returns : tie.Need-returns
 returns c = search spare-bases!
 
-sub-zeros-2 : tie.Need-sub-zeros-2
-sub-zeros-2 c = search needs
+mul-unused-2 : tie.Need-mul-unused-2
+mul-unused-2 c = search needs
 
-part-zeros-start-2 : tie.Need-part-zeros-start-2
-part-zeros-start-2 c = search needs
+add-unused-2 : tie.Need-add-unused-2
+add-unused-2 c = search needs
 
-part-zeros-end-2 : tie.Need-part-zeros-end-2
-part-zeros-end-2 c = search needs
+sub-unused-2 : tie.Need-sub-unused-2
+sub-unused-2 c = search needs
 
-zeros-requires-2 : tie.Need-zeros-requires-2
-zeros-requires-2 c κs = search needs
+unused-requires-2 : tie.Need-unused-requires-2
+unused-requires-2 c κs = search needs
 
 returns-2 : tie.Need-returns-2
 returns-2 c = search spare-leaves!
 
-sub-zeros-3 : tie.Need-sub-zeros-3
-sub-zeros-3 c = search needs
-
-part-zeros-start-3 : tie.Need-part-zeros-start-3
-part-zeros-start-3 c = search needs
-
-part-zeros-end-3 : tie.Need-part-zeros-end-3
-part-zeros-end-3 c = search needs
-
-zeros-requires-3 : tie.Need-zeros-requires-3
-zeros-requires-3 c κs = search needs
+unused-requires-3 : tie.Need-unused-requires-3
+unused-requires-3 c κs = search needs
 
 returns-3 : tie.Need-returns-3
 returns-3 c = search spare-rest!
@@ -72,23 +51,16 @@ spare-zero-spec =
     tie.close
     (tie.spec
     byte-at-requires
-    mul-bases
-    add-bases
     byte-at-requires-2
-    mul-leaves
-    add-leaves
-    sub-zeros
-    part-zeros-start
-    part-zeros-end
-    zeros-requires
+    mul-unused
+    add-unused
+    sub-unused
+    unused-requires
     returns
-    sub-zeros-2
-    part-zeros-start-2
-    part-zeros-end-2
-    zeros-requires-2
+    mul-unused-2
+    add-unused-2
+    sub-unused-2
+    unused-requires-2
     returns-2
-    sub-zeros-3
-    part-zeros-start-3
-    part-zeros-end-3
-    zeros-requires-3
+    unused-requires-3
     returns-3)

@@ -4,7 +4,7 @@ use native.Mathlib.Omega.{arith}
 use Rattle.log.specs.Record.{lengthOf}
 use Rattle.log.specs.Table.{kinds, kindAt}
 use Rattle.log.specs.Scan.{stepped}
-use Rattle.log.proofs.Ways.{lost-pick, out-room, out-on! }
+use Rattle.log.proofs.Ways.{lost-pick, out-room, out-rows, out-on! }
 use borrow.Author.Needs.{needs}
 use Rattle.log.proofs.scan.out_turn.Statement.{statement}
 use Rattle.log.proofs.scan.out_turn.Tie as tie
@@ -26,7 +26,11 @@ get2-requires : tie.Need-get2-requires
 get2-requires c κs = omega (arith, out-room _ (c .before .before .before .before .args .m .now) _ (c .if1 .left) _ _ (c .before .is-out .ensures) .0)
 
 largest-key-requires : tie.Need-largest-key-requires
-largest-key-requires c κs = omega (arith, out-room _ (c .before .before .before .before .before .args .m .now) _ (c .before .if1 .left) _ _ (c .before .before .is-out .ensures) .0)
+largest-key-requires c κs =
+    let m = c .before .before .before .before .before .args .m .now in
+    let r = out-room _ m _ (c .before .if1 .left) _ _ (c .before .before .is-out .ensures) in
+    let o = out-rows _ m _ (c .before .if1 .left) _ _ (c .before .before .is-out .ensures) in
+    (omega (arith, r .0), omega (arith, o .0), rw (c .get2 .ensures) (o .1))
 
 size-of-requires : tie.Need-size-of-requires
 size-of-requires c κs = omega (arith, out-room _ (c .before .before .before .before .before .before .args .m .now) _ (c .before .before .if1 .left) _ _ (c .before .before .before .is-out .ensures) .1)

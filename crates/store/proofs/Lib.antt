@@ -1,4 +1,4 @@
--- Laws about the calls' definitions: refusals, and each way through a call's tests; and about one step of an open unit.
+-- Laws about the calls' definitions: refusals, and each way through a call's tests; about one step of an open unit, and finishing it.
 pub mod Refusals
 pub mod Chain
 pub mod Builds

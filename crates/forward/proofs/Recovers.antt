@@ -153,13 +153,14 @@ module _ (w l : List ℕ) (v : Walk) (k : Found w l v) where
             let x : Ended (finishing w l) v v′ w′ l′ = f .done n in
             refuses 8 a c u g (completing-is ∙ ap (recovered d (atEnd (found .log))) (x .is) ∙ unwell-is d (atEnd (found .log)) (x .state) w′ l′ t) s
 
-      pub complete-accepts : reply ≡ 0 → wellFormed (pages w′) ≡ true
-          → left 0 ((v′ .number - v .number) ∷ []) (lent (v′ .at) (v .at) w′ st l′ []) ≡ completing d w
-      complete-accepts n t =
+      pub complete-accepts : (a c u g : ℕ) → reply ≡ 0 → wellFormed (pages w′) ≡ true
+          → (a ≡ 0) × (c ≡ v′ .number - v .number) × (u ≡ v′ .at) × (g ≡ v .at) → left a (c ∷ []) (lent u g w′ st l′ []) ≡ completing d w
+      complete-accepts a c u g n t s =
           let x : Ended (finishing w l) v v′ w′ l′ = f .done n in
-          accepted-as st w′ l′ _ _ _ _ _ _ _ _ (number-is (x .state) v′ (x .shows)) (number-is (atEnd (found .log)) v (found .shows)) (at-is (x .state) v′ (x .shows))
+          rw (s .0, s .1, s .2, s .3)
+          (accepted-as st w′ l′ _ _ _ _ _ _ _ _ (number-is (x .state) v′ (x .shows)) (number-is (atEnd (found .log)) v (found .shows)) (at-is (x .state) v′ (x .shows))
           (at-is (atEnd (found .log)) v (found .shows))
-          ∙ sym (completing-is ∙ ap (recovered d (atEnd (found .log))) (x .is) ∙ well-is d (atEnd (found .log)) (x .state) w′ l′ t)
+          ∙ sym (completing-is ∙ ap (recovered d (atEnd (found .log))) (x .is) ∙ well-is d (atEnd (found .log)) (x .state) w′ l′ t))
 
 -- ---- the answers of the whole
 

@@ -89,6 +89,23 @@ fn taken_back(n: Numbers, work: &mut [u8], log: &mut [u8], end: usize, reply: u8
     blanked(n, work, reply)
 }
 
+// Accepted: used is the log's end after finishing, forced its end as found, and the count is that of the records between.
+fn accepted(found: Walk, end: Walk) -> RecoverAnswer
+    requires { ⌜ (found .at ≤ 8192) × (end .at ≤ 8192) × (found .number ≤ end .number) ⌝ }
+    ensures { λ r. ⌜ (r .recovered .reply ≡ 0) × (r .recovered .count ≡ end .number - found .number) × (r .numbers .used ≡ end .at) × (r .numbers .forced ≡ found .at) ⌝ }
+{
+    RecoverAnswer {
+        recovered: Recovered {
+            reply: 0,
+            count: end.number - found.number,
+        },
+        numbers: Numbers {
+            used: end.at as u32,
+            forced: found.at as u32,
+        },
+    }
+}
+
 // From the repeated pages on: an open unit is finished, and the tree tested.
 fn complete(n: Numbers, work: &mut [u8], log: &mut [u8], found: Walk) -> RecoverAnswer
     requires { ⌜ Found (now work) (now log) found ⌝ }
@@ -102,17 +119,7 @@ fn complete(n: Numbers, work: &mut [u8], log: &mut [u8], found: Walk) -> Recover
     if !tree::well::well_formed(work) {
         return taken_back(n, work, log, found.at, 8);
     }
-    let w = f.walk;
-    RecoverAnswer {
-        recovered: Recovered {
-            reply: 0,
-            count: w.number - found.number,
-        },
-        numbers: Numbers {
-            used: w.at as u32,
-            forced: found.at as u32,
-        },
-    }
+    accepted(found, f.walk)
 }
 
 // The work pages from the store and the log: what the log holds is repeated, an open unit finished.

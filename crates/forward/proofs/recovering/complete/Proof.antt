@@ -1,5 +1,4 @@
 -- `store::recovering::complete` meets its contract: a law for each of its answers. Assumes nothing.
-use native.Mathlib.Omega.{arith}
 use mathlib.Core.Path.{sym, _∙_}
 use borrow.Author.Tests.{not-true, not-false}
 use Rattle.forward.proofs.Recovers.{found-inside, complete-stops, complete-unwell, complete-accepts}
@@ -50,18 +49,11 @@ returns-2 c =
     (λ w s. complete-unwell (a .args .work .now) (a .args .log .now) (a .args .found) (a .pre) _ _ w s _ _ _ _ (f .ensures) _ _ (f .kept .1 .0) (e .0) (e .1) _ _ _ _ (c .before .before .before .before .before .before .before .before .before .before .if1 .left)
     (sym (c .before .before .before .before .before .before .before .before .well-formed .ensures) ∙ not-true _ (c .before .before .before .before .before .before .before .if2 .taken)) (e .2, e .3, e .4, e .5))
 
-sub-t23 : tie.Need-sub-t23
-sub-t23 c =
-    c .before .before .before .before .before .before .before .before .before .before .before .before .finish .ensures .done (c .before .before .before .before .before .before .if1 .left) .later
-
-cast-t25 : tie.Need-cast-t25
-cast-t25 c =
-    omega (arith, c .before .before .before .before .before .before .before .before .before .before .before .before .before .finish .ensures .done (c .before .before .before .before .before .before .before .if1 .left) .inside)
-
-cast-t26 : tie.Need-cast-t26
-cast-t26 c =
-    let a = c .before .before .before .before .before .before .before .before .before .before .before .before .before .before .before .before .before .before .before in
-    omega (arith, found-inside (a .args .work .now) (a .args .log .now) (a .args .found) (a .pre))
+accepted-requires : tie.Need-accepted-requires
+accepted-requires c κs =
+    let a = c .before .before .before .before .before .before .before .before .before .before .before .before .before .before in
+    let e = c .before .before .before .before .before .before .before .before .before .finish .ensures .done (c .before .before .before .if1 .left) in
+    (found-inside (a .args .work .now) (a .args .log .now) (a .args .found) (a .pre), e .inside, e .later)
 
 same-length-5 : tie.Need-same-length-5
 same-length-5 c = search needs
@@ -71,8 +63,9 @@ same-length-6 c = search needs
 
 returns-3 : tie.Need-returns-3
 returns-3 c =
-    let a = c .before .before .before .before .before .before .before .before .before .before .before .before .before .before .before .before .before .before .before in
-    (λ w s. complete-accepts (a .args .work .now) (a .args .log .now) (a .args .found) (a .pre) _ _ w s _ _ _ _ (c .before .before .before .before .before .before .before .before .before .before .before .before .before .before .finish .ensures) (c .before .before .before .before .before .before .before .before .if1 .left) (sym (c .before .before .before .before .before .before .well-formed .ensures) ∙ not-false _ (c .before .before .before .before .before .if2 .left)))
+    let a = c .before .before .before .before .before .before .before .before .before .before .before .before .before .before .before in
+    (λ w s. complete-accepts (a .args .work .now) (a .args .log .now) (a .args .found) (a .pre) _ _ w s _ _ _ _ (c .before .before .before .before .before .before .before .before .before .before .finish .ensures) _ _ _ _ (c .before .before .before .before .if1 .left)
+    (sym (c .before .before .well-formed .ensures) ∙ not-false _ (c .before .if2 .left)) (c .accepted .ensures))
 
 pub complete-spec : {M : Type 1} → statement M
 complete-spec =
@@ -88,9 +81,7 @@ complete-spec =
     same-length-3
     same-length-4
     returns-2
-    sub-t23
-    cast-t25
-    cast-t26
+    accepted-requires
     same-length-5
     same-length-6
     returns-3)

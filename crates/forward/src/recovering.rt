@@ -1,4 +1,5 @@
-// Recovery.
+// Recovery: the work pages are made anew from the store and the log. Its tests come in the order 1, 2, 3, 4, then 5, 6 and 7 as met record by
+// record, then 8. A refusal past test 1 zeroes the work pages, and one that comes after records were appended takes them back first.
 ghost use mathlib.Core.Path.{_≡_};
 ghost use Prim.Native.Nat.{ℕ, _-_, _≤_};
 ghost use mathlib.Core.List.{List, [], _∷_};

@@ -55,7 +55,7 @@ fn build_of(
     let s = state::least(lent.store, store);
     let l = state::least(lent.log, log);
     let numbers = at.numbers;
-    let a = store::build(
+    let a = handed::build(
         numbers,
         &mut work[..w],
         &mut store[..s],

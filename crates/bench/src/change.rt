@@ -28,7 +28,7 @@ fn recover(at: State, work: &mut [u8], store: &[u8], log: &mut [u8]) -> State {
     let s = state::least(lent.store, store);
     let l = state::least(lent.log, log);
     let numbers = at.numbers;
-    let a = forward::recover(numbers, &mut work[..w], &store[..s], &mut log[..l]);
+    let a = handed::recover(numbers, &mut work[..w], &store[..s], &mut log[..l]);
     output::recovered(at, a)
 }
 
@@ -41,7 +41,7 @@ fn begin_compact(at: State, work: &[u8], log: &mut [u8]) -> State {
     let w = state::least(lent.work, work);
     let l = state::least(lent.log, log);
     let numbers = at.numbers;
-    let a = store::begin_compact(numbers, &work[..w], &mut log[..l], fill);
+    let a = handed::begin_compact(numbers, &work[..w], &mut log[..l], fill);
     output::replied(at, a)
 }
 
@@ -51,7 +51,7 @@ fn begin_order(at: State, work: &[u8], log: &mut [u8]) -> State {
     let w = state::least(lent.work, work);
     let l = state::least(lent.log, log);
     let numbers = at.numbers;
-    let a = store::begin_order(numbers, &work[..w], &mut log[..l]);
+    let a = handed::begin_order(numbers, &work[..w], &mut log[..l]);
     output::replied(at, a)
 }
 
@@ -61,7 +61,7 @@ fn step(at: State, work: &mut [u8], log: &mut [u8]) -> State {
     let w = state::least(lent.work, work);
     let l = state::least(lent.log, log);
     let numbers = at.numbers;
-    let a = forward::step(numbers, &mut work[..w], &mut log[..l]);
+    let a = handed::step(numbers, &mut work[..w], &mut log[..l]);
     output::replied(at, a)
 }
 
@@ -75,7 +75,7 @@ fn flush(at: State, work: &[u8], store: &mut [u8], log: &[u8]) -> State {
     let s = state::least(lent.store, store);
     let l = state::least(lent.log, log);
     let numbers = at.numbers;
-    let a = store::flush(numbers, &work[..w], &mut store[..s], &log[..l], PageNo(p));
+    let a = handed::flush(numbers, &work[..w], &mut store[..s], &log[..l], PageNo(p));
     output::replied(at, a)
 }
 
@@ -84,7 +84,7 @@ fn force(at: State, log: &[u8]) -> State {
     let lent = at.lent;
     let l = state::least(lent.log, log);
     let numbers = at.numbers;
-    let a = store::force(numbers, &log[..l]);
+    let a = handed::force(numbers, &log[..l]);
     output::replied(at, a)
 }
 
@@ -101,6 +101,6 @@ fn checkpoint(at: State, work: &[u8], store: &[u8], log: &mut [u8]) -> State {
     let s = state::least(lent.store, store);
     let l = state::least(lent.log, log);
     let numbers = at.numbers;
-    let a = store::checkpoint(numbers, &work[..w], &store[..s], &mut log[..l], clear == 1);
+    let a = handed::checkpoint(numbers, &work[..w], &store[..s], &mut log[..l], clear == 1);
     output::replied(at, a)
 }

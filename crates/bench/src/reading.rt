@@ -31,7 +31,7 @@ pub fn find(at: State, work: &[u8], log: &[u8]) -> State {
     let w = state::least(lent.work, work);
     let l = state::least(lent.log, log);
     let numbers = at.numbers;
-    let a = store::find(numbers, &work[..w], &log[..l], key);
+    let a = handed::find(numbers, &work[..w], &log[..l], key);
     output::found(at, a)
 }
 
@@ -54,7 +54,7 @@ fn list_into(at: State, work: &[u8], log: &[u8], low: u32, high: u32, room: &mut
     let w = state::least(lent.work, work);
     let l = state::least(lent.log, log);
     let numbers = at.numbers;
-    let a = store::list(numbers, &work[..w], &log[..l], low, high, room);
+    let a = handed::list(numbers, &work[..w], &log[..l], low, high, room);
     output::listed(at, a, room)
 }
 

@@ -3,10 +3,10 @@
 -- The numbers are the first parameter of the call, and the lent record is the first of its callee. What the other parameters own, their tokens and what is
 -- said of them at exit go through as they are, so the walk knows neither how many they are nor what the callee does: what the callee ensures of the record
 -- at exit, the call ensures of the numbers in its answer. The record is lent for a lifetime that is made for the call and over once it has returned.
---     Loan                a record that is lent: the address of its local, its lifetime, its name
+--     Loan, lentAt, lifeOf     a record that is lent: the address of its local, its lifetime, its name
 --     lentRecord, lentOwn, lenderPart     the reference to it, what the reference owns, and what the lender keeps
 --     lendCode, callCode     the call's statements
---     Made                what is known of a type of answer: how it is made of a result and the numbers
+--     Made, both          what is known of a type of answer: how it is made of a result and the numbers, and its machine value of theirs
 --     lends-record, record-back     what lies in a local is lent, and is had again once the lifetime is over
 --     record-pointed      the record is made and pointed to
 --     callee-called       the record is lent, the callee called, the record taken back, the answer made, and the call's `post` is shown
@@ -53,6 +53,9 @@ pub record Loan : Type 0 where
   pub life : ℕ
   pub name : GName
 
+abbrev pub lentAt : ℕ → ℕ → GName → Loan
+lentAt b α γ = record { at = b; life = α; name = γ }
+
 abbrev pub lifeOf : Loan → Lft
 lifeOf l = l .life ∷ []
 
@@ -89,7 +92,7 @@ pub record Made (S : Answered) : Type 2 where
 -- ---- the record in its local
 module _ {M : Type 1} (𝓤 : URA M) (H : Heap 𝓤) (A : Atoms 𝓤) (W : Given 𝓤 H A) where
   lends-record : (b α : ℕ) (h : Numbers) → ent 𝓤 (sep 𝓤 (H .at fullShare N′.mir b 0 (N′.lowered h)) (sem 𝓤 H A (N.the-row .own h (N′.lowered h ∷ []))))
-      (H .⇛ (ex 𝓤 (λ (γ : GName). sep 𝓤 (sem 𝓤 H A (lentOwn (record { at = b; life = α; name = γ }) h)) (sem 𝓤 H A (lenderPart (record { at = b; life = α; name = γ }))))))
+      (H .⇛ (ex 𝓤 (λ (γ : GName). sep 𝓤 (sem 𝓤 H A (lentOwn (lentAt b α γ) h)) (sem 𝓤 H A (lenderPart (lentAt b α γ))))))
   unfolding partOf
   lends-record b α h =
       qed W (‵ (fat fullShare N′.mir b 0 (N′.lowered h)) ∷ ‵ (N.the-row .own h (N′.lowered h ∷ [])) ∷ []) ∵
@@ -147,7 +150,7 @@ module _ {M : Type 1} (𝓤 : URA M) (H : Heap 𝓤) (A : Atoms 𝓤) (W : Given
           (eM : spotOf 𝓤 H E iM ≡ (N′.mir, lM, 0)) (eX : spotOf 𝓤 H E iX ≡ (S .τ, lX, 0)) (eB : spotOf 𝓤 H E iB ≡ (N′.mir, lB, 0)) (eP : spotOf 𝓤 H E iP ≡ (τp, lP, 0))
           (e₀ : spotOf 𝓤 H E 0 ≡ (answerTy (S .ν) (S .τ), l₀, 0)) (e₁ : spotOf 𝓤 H E 1 ≡ (N′.mir, l₁, 0)) where
         abbrev loan : ℕ → GName → Loan
-        loan α γ = record { at = lM; life = α; name = γ }
+        loan α γ = lentAt lM α γ
 
         abbrev cellM : Numbers → Item 𝓤
         cellM g = ‵ (fat fullShare N′.mir lM 0 (N′.lowered g))
@@ -236,7 +239,7 @@ module _ {M : Type 1} (𝓤 : URA M) (H : Heap 𝓤) (A : Atoms 𝓤) (W : Given
           (λ α γ i₀ i₁.
           let Γ : Items = i₀ ∷ i₁ ∷ five (‵ (ownCells os us) ∷ ‵ (loanCells os bs) ∷ dying) in
           let Δ : Items = ‵ (ownCells os us) ∷ ‵ (loanCells os bs) ∷ i₀ ∷ i₁ ∷ five dying in
-          subst (λ (vs : List Val). Opds (Go {0}) W Γ E (copy (place (suc (suc (behind os 3))) []) ∷ operands os 2 (suc (suc (behind os 4)))) vs) (sym (args-are (record { at = lM; life = α; name = γ })))
+          subst (λ (vs : List Val). Opds (Go {0}) W Γ E (copy (place (suc (suc (behind os 3))) []) ∷ operands os 2 (suc (suc (behind os 4)))) vs) (sym (args-are (lentAt lM α γ)))
           (and-then ! (load ! (finds ! eP (stop !)) (look ! 2 refl)) (reads-alike 𝓤 H A W Γ Δ E _ _
           (qed W Γ ∵ move ! (7 ∷ 8 ∷ []) $ done !)
           (qed W Δ ∵ move ! (2 ∷ 3 ∷ 4 ∷ 5 ∷ 6 ∷ 7 ∷ 8 ∷ 0 ∷ 1 ∷ []) $ done !)

@@ -2,3 +2,4 @@
 pub mod Tested
 pub mod Passed
 pub mod Descend
+pub mod Held

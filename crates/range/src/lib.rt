@@ -36,3 +36,11 @@ pub fn advance<'s, 'a>(r: &'s mut RangeReader<'a>) -> Step
     r.at = s.next;
     s
 }
+
+// The first record whose key is at least this one.
+pub fn first_from(pages: &[u8], key: u32) -> Step
+    ensures found { λ s. ⌜ s ≡ nextFrom (now (pages .entry)) (startFrom (now (pages .entry)) key .at) ⌝ }
+{
+    let mut r = start(pages, key);
+    advance(&mut r)
+}

@@ -1,16 +1,15 @@
 -- The tests of a step, one by one: what a row that may be read has, and each answer of a step and of a start. The laws that end in `!` are for
 -- `search`. Assumes nothing.
-use Prim.Native.Nat.{ℕ, suc, _+_, _-_, _*_, _≤_, _<_}
+use Prim.Native.Nat.{ℕ, _+_, _-_, _*_, _≤_, _<_}
 use native.Mathlib.Omega.{arith}
-use mathlib.Core.Path.{_≡_, refl, sym, ap, _∙_}
+use mathlib.Core.Path.{_≡_, refl, sym, _∙_}
 use mathlib.Core.Bool.{Bool, true, false}
 use mathlib.Core.List.{List, [], _∷_}
 use lib.ListN.{length, take, drop, getD}
-use lib.Dec.{eqb, leb, ltb}
+use lib.Dec.{leb, ltb}
 use borrow.Author.Tests.{eq-eqb, ne-eqb, eqb-true, le-leb, lt-leb, leb-true, lt-ltb, le-ltb, ltb-true}
 use Rattle.field.specs.Test.{both, all}
 use Rattle.field.proofs.Test.{all-head, all-tail, all-true, all-false, all-nil, both-end, both-true, both-false, pick-true, pick-false, need-true, need-false}
-use Rattle.field.proofs.Part.{split}
 use Rattle.page.specs.Page.{keyOf, valueOf, letter, count, rows}
 use Rattle.page.specs.Pages.{page, pages, allFormed}
 use Rattle.page.proofs.Pages.{lent-page, length-page}
@@ -18,8 +17,6 @@ use Rattle.tree.specs.Tree.{wellFormed}
 use Rattle.tree.specs.declared.walk.Place.{Place}
 use Rattle.tree.proofs.Turn.{letter-page}
 use Rattle.range.specs.Reading.{place, theEnd, hasRow, hasTop, hasEntry, hasRecord, entryTo, below, leafAfter, settled, step, nothing, nextFrom, firstFrom, reached, startFrom}
-use Rattle.range.specs.declared.steps.Reached.{Reached}
-use Rattle.range.specs.declared.steps.Step.{Step}
 
 all-last : (b : Bool) → all (b ∷ []) ≡ b
 unfolding all

@@ -1,7 +1,6 @@
 // What the range reader rests on: where it starts and what a step gives, on the pages and a position of plain numbers. Both take any pages,
 // of any length, and any position; each read is tested against the page's letter and count first.
 ghost use mathlib.Core.Path.{_≡_};
-ghost use mathlib.Core.List.{[]};
 ghost use Prim.Native.Nat.{_+_, _*_, _≤_, _<_};
 ghost use lib.ListN.{length};
 ghost use Rattle.page.specs.Page.{count, rows};

@@ -1,5 +1,5 @@
 -- `range::steps::seek` meets its contract: the way down in a well-formed tree. Assumes nothing.
-use Prim.Native.Nat.{_≤_, _<_}
+use Prim.Native.Nat.{_<_}
 use native.Mathlib.Omega.{arith}
 use mathlib.Core.Path.{sym, _∙_}
 use Rattle.tree.specs.Walk.{Spot, Over}

@@ -19,7 +19,7 @@ use Rattle.tree.specs.Reader.{Sound, fromRoot, behind, toCome}
 use Rattle.tree.specs.declared.walk.Place.{Place}
 use Rattle.tree.proofs.Regions.{as-root, as-empty, as-base, as-leaf, formed-kind, empty-none, root-points, base-points}
 use Rattle.tree.proofs.Onward.{root-over, leaf-spot, come-on, come-end, come-first, there-come, behind-base, root-come, from-done}
-use Rattle.range.specs.Reading.{place, theEnd, hasTop, hasEntry, hasRecord, entryTo, below, leafAfter, settled, step, nextFrom}
+use Rattle.range.specs.Reading.{place, theEnd, hasTop, hasEntry, hasRecord, entryTo, firstBelow, leafAfter, settled, step, nextFrom}
 use Rattle.range.proofs.Tested.{row-true, row-false, after-here, after-end, after-top, settled-here, settled-on, next-there}
 
 -- ---- the kinds of the pages
@@ -97,19 +97,19 @@ pub record Comes (w : List ℕ) (at : Place) (rs : List (List ℕ)) : Type 0 whe
 
 module _ (w : List ℕ) (s : Sound w) where
   -- the first record below an entry of a base page
-  below-stands : (o b i : ℕ) → Over w b → b ≤ 7 → i < count (page b w) → Standing w (below o b i w)
-  unfolding below
+  below-stands : (o b i : ℕ) → Over w b → b ≤ 7 → i < count (page b w) → Standing w (firstBelow o b i w)
+  unfolding firstBelow
   below-stands o b i over low h =
       let p : ℕ = entryTo b i w in
       let spot : Spot 16 w p = unfold entryTo in leaf-spot w b i p over h refl in
       record { seat = λ k. record { over = over; low = low; spot = spot; high = base-to w s b i p (over .base) low h refl }; here = λ k. spot .full }
 
-  below-left : (at : Place) → Over w (at .base) → at .entry < count (page (at .base) w) → toCome w (below (at .root) (at .base) (at .entry) w) ≡ behind w at
-  unfolding below behind entryTo
+  below-left : (at : Place) → Over w (at .base) → at .entry < count (page (at .base) w) → toCome w (firstBelow (at .root) (at .base) (at .entry) w) ≡ behind w at
+  unfolding firstBelow behind entryTo
   below-left at over h = there-come w (at .root) (at .base) (at .entry) (entryTo (at .base) (at .entry) w) over h refl
 
-  top-left : (o b : ℕ) → o < count (page 0 w) → b ≡ entryTo 0 o w → toCome w (below (o + 1) b 0 w) ≡ fromRoot w o
-  unfolding below entryTo
+  top-left : (o b : ℕ) → o < count (page 0 w) → b ≡ entryTo 0 o w → toCome w (firstBelow (o + 1) b 0 w) ≡ fromRoot w o
+  unfolding firstBelow entryTo
   top-left o b h e =
       let over : Over w b = root-over w s o b h e in
       there-come w (o + 1) b 0 (entryTo b 0 w) over (over .base .full) refl ∙ sym (root-come w s o b h e)
@@ -118,14 +118,14 @@ module _ (w : List ℕ) (s : Sound w) where
     pub after-comes : Comes w (leafAfter at w) (behind w at)
     after-comes =
         split (at .entry) (count (page (at .base) w))
-        (λ h. let e : leafAfter at w ≡ below (at .root) (at .base) (at .entry) w = after-here w at (entry-there w s (at .base) (at .entry) (seat .over .base) (seat .low) h) in
+        (λ h. let e : leafAfter at w ≡ firstBelow (at .root) (at .base) (at .entry) w = after-here w at (entry-there w s (at .base) (at .entry) (seat .over .base) (seat .low) h) in
         rw e (record { stands = below-stands (at .root) (at .base) (at .entry) (seat .over) (seat .low) h; left = below-left at (seat .over) h }))
         (λ h. let none = row-false _ _ (at .base) (at .entry) w h in
         split (at .root) (count (page 0 w))
         (λ k. let b : ℕ = entryTo 0 (at .root) w in
         let over : Over w b = unfold entryTo in root-over w s (at .root) b k refl in
         let low : b ≤ 7 = root-to w s (at .root) b k refl in
-        let e : leafAfter at w ≡ below (at .root + 1) b 0 w = after-top w at none (top-there w s (at .root) k) b refl (entry-there w s b 0 (over .base) low (over .base .full)) in
+        let e : leafAfter at w ≡ firstBelow (at .root + 1) b 0 w = after-top w at none (top-there w s (at .root) k) b refl (entry-there w s b 0 (over .base) low (over .base .full)) in
         rw e (record { stands = below-stands (at .root + 1) b 0 over low (over .base .full); left = top-left (at .root) b k refl ∙ sym (behind-base w at h) }))
         (λ k. let e : leafAfter at w ≡ theEnd = after-end w at none (row-false _ _ 0 (at .root) w k) in
         rw e (record { stands = end-standing w; left = come-end w theEnd refl ∙ sym (behind-base w at h ∙ from-done w (at .root) k) })))

@@ -16,7 +16,7 @@ use Rattle.page.proofs.Pages.{lent-page, length-page}
 use Rattle.tree.specs.Tree.{wellFormed}
 use Rattle.tree.specs.declared.walk.Place.{Place}
 use Rattle.tree.proofs.Turn.{letter-page}
-use Rattle.range.specs.Reading.{place, theEnd, hasRow, hasTop, hasEntry, hasRecord, entryTo, below, leafAfter, settled, step, nothing, nextFrom, firstFrom, reached, startFrom}
+use Rattle.range.specs.Reading.{place, theEnd, hasRow, hasTop, hasEntry, hasRecord, entryTo, firstBelow, leafAfter, settled, step, nothing, nextFrom, firstFrom, reached, startFrom}
 
 all-last : (b : Bool) → all (b ∷ []) ≡ b
 unfolding all
@@ -88,7 +88,7 @@ record-fits p i w whole f = rw (lent-page p w) (omega (arith, length-page p w wh
 -- ---- behind a leaf page
 
 module _ (w : List ℕ) (at : Place) where
-  pub after-here : hasEntry (at .base) (at .entry) w ≡ true → leafAfter at w ≡ below (at .root) (at .base) (at .entry) w
+  pub after-here : hasEntry (at .base) (at .entry) w ≡ true → leafAfter at w ≡ firstBelow (at .root) (at .base) (at .entry) w
   unfolding leafAfter
   after-here e = pick-true _ _ _ e
 
@@ -102,7 +102,7 @@ module _ (w : List ℕ) (at : Place) where
       unfolding leafAfter
       after-bare g = pick-false _ _ _ none ∙ pick-false _ _ _ (both-true _ _ f ∙ rw (← to) g)
 
-      pub after-top : hasEntry b 0 w ≡ true → leafAfter at w ≡ below (at .root + 1) b 0 w
+      pub after-top : hasEntry b 0 w ≡ true → leafAfter at w ≡ firstBelow (at .root + 1) b 0 w
       unfolding leafAfter
       after-top g = pick-false _ _ _ none ∙ pick-true _ _ _ (both-true _ _ f ∙ rw (← to) g) ∙ rw (← to)
 

@@ -23,7 +23,7 @@ theEnd = place 0 0 0 0 0
 
 -- ---- rows that may be read
 
--- page p bears this letter, has at most this many rows, and row i is one of them
+-- page p is one of the 64, bears this letter, has at most this many rows, and row i is one of them
 unfoldable pub hasRow : (sign most p i : ℕ) (w : List ℕ) → Bool
 hasRow c m p i w = all (ltb p 64 ∷ eqb (letter (page p w)) c ∷ leb (count (page p w)) m ∷ ltb i (count (page p w)) ∷ [])
 
@@ -44,15 +44,15 @@ entryTo p i w = toPage (getD (entries (page p w)) i [])
 -- ---- one step
 
 -- the first record below entry i of base page b, o entries of the root being passed
-unfoldable pub below : (o b i : ℕ) (w : List ℕ) → Place
-below o b i w = place o b (i + 1) (entryTo b i w) 0
+unfoldable pub firstBelow : (o b i : ℕ) (w : List ℕ) → Place
+firstBelow o b i w = place o b (i + 1) (entryTo b i w) 0
 
 -- the first record behind the leaf page of a position: below the next entry of its base page, else below the next entry of the root
 unfoldable pub leafAfter : (at : Place) (w : List ℕ) → Place
 leafAfter at w =
     let b : ℕ = entryTo 0 (at .root) w in
-    pick (hasEntry (at .base) (at .entry) w) (below (at .root) (at .base) (at .entry) w)
-    (pick (both (hasTop (at .root) w) (hasEntry b 0 w)) (below (at .root + 1) b 0 w) theEnd)
+    pick (hasEntry (at .base) (at .entry) w) (firstBelow (at .root) (at .base) (at .entry) w)
+    (pick (both (hasTop (at .root) w) (hasEntry b 0 w)) (firstBelow (at .root + 1) b 0 w) theEnd)
 
 -- the position itself where a record stands there, else behind its leaf page
 unfoldable pub settled : (at : Place) (w : List ℕ) → Place

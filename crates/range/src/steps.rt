@@ -6,7 +6,7 @@ ghost use lib.ListN.{length};
 ghost use Rattle.page.specs.Page.{count, rows};
 ghost use Rattle.page.specs.Pages.{page};
 ghost use Rattle.tree.specs.Reader.{Sound};
-ghost use Rattle.range.specs.Reading.{theEnd, hasRow, entryTo, below, leafAfter, settled, nextFrom, rowsBelow, firstFrom, reached, startFrom, nothing};
+ghost use Rattle.range.specs.Reading.{theEnd, hasRow, entryTo, firstBelow, leafAfter, settled, nextFrom, rowsBelow, firstFrom, reached, startFrom, nothing};
 use page::form;
 use page::view;
 use tree::walk::Place;
@@ -66,9 +66,9 @@ fn entry_to(w: &[u8], p: usize, i: usize) -> usize
 }
 
 // The first record below entry i of base page b, o entries of the root being passed.
-fn below(w: &[u8], o: usize, b: usize, i: usize) -> Place
+fn first_below(w: &[u8], o: usize, b: usize, i: usize) -> Place
     requires { ⌜ (length (now w) ≡ 16384) × (b < 64) × (count (page b (now w)) ≤ 30) × (i < count (page b (now w))) ⌝ }
-    ensures { λ r. ⌜ r ≡ below o b i (now (w .entry)) ⌝ }
+    ensures { λ r. ⌜ r ≡ firstBelow o b i (now (w .entry)) ⌝ }
 {
     let leaf = entry_to(w, b, i);
     Place {
@@ -86,7 +86,7 @@ fn leaf_after(w: &[u8], at: Place) -> Place
     ensures { λ r. ⌜ r ≡ leafAfter at (now (w .entry)) ⌝ }
 {
     if has_row(w, b'b', 30, at.base, at.entry) {
-        return below(w, at.root, at.base, at.entry);
+        return first_below(w, at.root, at.base, at.entry);
     }
     if !has_row(w, b'r', 30, 0, at.root) {
         return end();
@@ -95,7 +95,7 @@ fn leaf_after(w: &[u8], at: Place) -> Place
     if !has_row(w, b'b', 30, b, 0) {
         return end();
     }
-    below(w, at.root + 1, b, 0)
+    first_below(w, at.root + 1, b, 0)
 }
 
 // The position itself where a record stands there, else the first behind its leaf page.

@@ -10,13 +10,13 @@ use Rattle.range.proofs.steps.leaf_after.Tie as tie
 has-row-requires : tie.Need-has-row-requires
 has-row-requires c κs = search needs
 
-below-requires : tie.Need-below-requires
-below-requires c κs =
+first-below-requires : tie.Need-first-below-requires
+first-below-requires c κs =
     let f = row-facts _ _ _ _ _ (sym (c .before .has-row .ensures) ∙ c .if1 .taken) in
     (c .before .before .before .pre, f .inside, f .few, f .here)
 
 returns : tie.Need-returns
-returns c = c .below .ensures ∙ sym (after-here _ _ (sym (c .before .before .has-row .ensures) ∙ c .before .if1 .taken))
+returns c = c .first-below .ensures ∙ sym (after-here _ _ (sym (c .before .before .has-row .ensures) ∙ c .before .if1 .taken))
 
 has-row-requires-2 : tie.Need-has-row-requires-2
 has-row-requires-2 c κs = search needs
@@ -47,19 +47,19 @@ returns-3 c =
     (sym (c .before .before .before .before .before .has-row2 .ensures) ∙ not-false _ (c .before .before .before .before .if2 .left)) _ (c .before .before .before .entry-to .ensures)
     (sym (c .before .before .has-row3 .ensures) ∙ not-true _ (c .before .if3 .taken)))
 
-add-below : tie.Need-add-below
-add-below c =
+add-first-below : tie.Need-add-first-below
+add-first-below c =
     let f = row-facts _ _ _ _ _ (sym (c .before .before .before .before .before .has-row2 .ensures) ∙ not-false _ (c .before .before .before .before .if2 .left)) in
     omega (arith, f .few, f .here)
 
-below-requires-2 : tie.Need-below-requires-2
-below-requires-2 c κs =
+first-below-requires-2 : tie.Need-first-below-requires-2
+first-below-requires-2 c κs =
     let f = row-facts _ _ _ _ _ (sym (c .before .before .has-row3 .ensures) ∙ not-false _ (c .before .if3 .left)) in
     (c .before .before .before .before .before .before .before .before .before .pre, f .inside, f .few, f .here)
 
 returns-4 : tie.Need-returns-4
 returns-4 c =
-    c .below2 .ensures
+    c .first-below2 .ensures
     ∙ sym (after-top _ _ (sym (c .before .before .before .before .before .before .before .before .has-row .ensures) ∙ c .before .before .before .before .before .before .before .if1 .left)
     (sym (c .before .before .before .before .before .before .has-row2 .ensures) ∙ not-false _ (c .before .before .before .before .before .if2 .left)) _ (c .before .before .before .before .entry-to .ensures)
     (sym (c .before .before .before .has-row3 .ensures) ∙ not-false _ (c .before .before .if3 .left)))
@@ -69,7 +69,7 @@ leaf-after-spec =
     tie.close
     (tie.spec
     has-row-requires
-    below-requires
+    first-below-requires
     returns
     has-row-requires-2
     end-requires
@@ -78,6 +78,6 @@ leaf-after-spec =
     has-row-requires-3
     end-requires-2
     returns-3
-    add-below
-    below-requires-2
+    add-first-below
+    first-below-requires-2
     returns-4)

@@ -19,7 +19,7 @@ use Rattle.log.specs.declared.scan.Walk.{Walk}
 use Rattle.log.proofs.Record.{size-least}
 use Rattle.log.proofs.Read.{readLog-facts}
 use Rattle.log.proofs.Append.{grown, atEnd-grown}
-use Rattle.log.proofs.Toward.{Opened, shown-opened, shown-shut, scanned-walk, Next, toward-end, toward-next, turn-grown}
+use Rattle.log.proofs.Toward.{Opened, shown-opened, shown-shut, scanned-walk, Next, toward-end, toward-next, turned-ok, turn-grown}
 use Rattle.tree.specs.Walk.{InForm}
 use Rattle.store.specs.Calls.{Went, stopped, went, andThen, todoOf, append, finish}
 use Rattle.forward.specs.Appends as Appends
@@ -212,17 +212,23 @@ module _ (w₀ l₀ : List ℕ) (v₀ : Walk) (w l : List ℕ) (v : Walk) (p : G
         log-is : put ((atEnd (p .log)) .at) (encode ((atEnd (p .log)) .number + 1) (grew .added)) l ≡ l′
         log-is = sym (grew .written)
 
-        pub going-ready : Ready l′ v
-        going-ready =
+        ready : Ready l′ v
+        ready =
             subst (Ready l′) (sym (p .shows))
             (subst (λ (y : List ℕ). Ready y (shown (atEnd (p .log)))) log-is (turn-grown l (p .log) (grew .added) (p .log-bytes) (p .read) (grew .fits) .0))
 
+        turned-is : turned l′ v ≡ shown (atEnd (grown (p .log) (grew .added)))
+        turned-is =
+            ap (turned l′) (p .shows) ∙ ap (λ (y : List ℕ). turned y (shown (atEnd (p .log)))) (grew .written)
+            ∙ turn-grown l (p .log) (grew .added) (p .log-bytes) (p .read) (grew .fits) .1
+            ∙ ap shown (sym (atEnd-grown (p .log) (grew .added)))
+
+        pub going-past : Ready l′ v × ((turned l′ v) .ok ≡ true)
+        going-past = (ready, turned-ok l′ v (atEnd (grown (p .log) (grew .added))) turned-is)
+
         module _ (v′ : Walk) (t : v′ ≡ turned l′ v) where
           turns : v′ ≡ shown (atEnd (grown (p .log) (grew .added)))
-          turns =
-              t ∙ ap (turned l′) (p .shows) ∙ ap (λ (y : List ℕ). turned y (shown (atEnd (p .log)))) (grew .written)
-              ∙ turn-grown l (p .log) (grew .added) (p .log-bytes) (p .read) (grew .fits) .1
-              ∙ ap shown (sym (atEnd-grown (p .log) (grew .added)))
+          turns = t ∙ turned-is
 
           at-grew : v′ .at ≡ v .at + size (grew .added)
           at-grew =

@@ -76,7 +76,7 @@ fn finish(work: &mut [u8], log: &mut [u8], found: Walk) -> Finished
         if reply != 0 {
             return Finished { reply, walk: w };
         }
-        w = log::scan::turn(log, w);
+        w = log::past::past(log, w);
     }
     Finished { reply: 0, walk: w }
 }

@@ -75,7 +75,7 @@ pub fn step(n: Numbers, work: &mut [u8], log: &mut [u8]) -> Answer
     if reply != 0 {
         return known::kept(n, reply);
     }
-    let after = log::scan::turn(log, w);
+    let after = log::past::past(log, w);
     Answer {
         reply: 0,
         numbers: Numbers {

@@ -12,6 +12,7 @@ pub mod Rowed
 pub mod Placed
 pub mod Turned
 pub mod Ways
+pub mod Signs
 pub mod Held
 pub mod Laid
 pub mod Pass

@@ -372,14 +372,18 @@ module _ (m : List ℕ) (u i : ℕ) (ok : beginOk (readBegin u m) ≡ true) (r :
       let n : eqb t 1 ≡ false = ne-eqb t 1 (λ z. omega arith) in
       e ∙ rw (← q, n, eq-eqb t 2 h, e0, e1, a0, b0)
 
-  pub step-move! : (p a d : ℕ) → p ≡ le2 m 20 → a ≡ le2 m 24 → d ≡ le2 m 40 → r ≡ getD (movePlan p a d ++ (close u ∷ [])) i (close u) → (t ≡ 1 → ⊥) → (t ≡ 2 → ⊥)
+  step-move : (p a d : ℕ) → p ≡ le2 m 20 → a ≡ le2 m 24 → d ≡ le2 m 40 → r ≡ getD (movePlan p a d ++ (close u ∷ [])) i (close u) → (t ≡ 1 → ⊥) → (t ≡ 2 → ⊥)
       → r ≡ getD (plan (readBegin u m)) i (close u)
   unfolding plan readBegin pick
-  step-move! p a d pp pa pd e f g =
+  step-move p a d pp pa pd e f g =
       let x : Moves m u ok = is-move m u ok (λ z. f (q ∙ z)) (λ z. g (q ∙ z)) in
       let e0 : getD (readFields (getD m 18 0) (drop 20 m)) 0 0 ≡ p = base-at m 0 0 (omega (arith, x .base)) ∙ sym pp in
       let a0 : getD (readFields (getD m 19 0) (drop 24 m)) 0 0 ≡ a = leaf-at m 0 (omega (arith, x .leaf)) ∙ sym pa in
       e ∙ rw (← q, ne-eqb t 1 f, ne-eqb t 2 g, e0, a0, pd)
+
+  pub step-other! : (p a d : ℕ) → p ≡ le2 m 20 → a ≡ le2 m 24 → d ≡ le2 m 40 → r ≡ getD (movePlan p a d ++ (close u ∷ [])) i (close u) → eqb (getD m 16 0) 1 ≡ false → (t ≡ 2 → ⊥)
+      → r ≡ getD (plan (readBegin u m)) i (close u)
+  step-other! p a d pp pa pd e f g = step-move p a d pp pa pd e (λ z. false≢true (sym f ∙ eq-eqb (getD m 16 0) 1 (sym q ∙ z))) g
 
 -- ---- how many steps
 

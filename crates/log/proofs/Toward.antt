@@ -22,6 +22,7 @@ use Rattle.log.specs.Plan.{Step, takeOut, bringIn, point, close, plan}
 use Rattle.log.specs.Log.{Open, State, first, after, afterAll, readBegin, beginOk, taken, planned, readRec, readRecs, readCheck, Log, readLog, atEnd}
 use Rattle.log.specs.Scan.{shown, lost, turned, Ready, topped, answer, scanned, live}
 use Rattle.log.specs.Source.{sourced, recordAt}
+use Rattle.log.specs.declared.scan.Walk.{Walk}
 use Rattle.log.proofs.Record.{size-least}
 use Rattle.log.proofs.Valid.{Fits}
 use Rattle.log.proofs.Sound.{Awaits, awaits-todo}
@@ -170,6 +171,11 @@ toward-over {rs = rs} t h = over-by rs t h
 -- a turn may be made
 pub toward-ready : {l : List ℕ} {s : State} {rs : List Rec} → Toward l s rs → Ready l (shown s)
 toward-ready {l} {s} t = ready l s (t .holds)
+
+-- a turn that leads to a state's numbers found its record
+pub turned-ok : (l : List ℕ) (w : Walk) (s : State) → turned l w ≡ shown s → (turned l w) .ok ≡ true
+unfolding shown
+turned-ok l w s e = ap (λ (y : Walk). y .ok) e
 
 -- past some of the records
 pub toward-past : {l : List ℕ} → Bytes l → (s : State) (a b : List Rec) → Toward l s (a ++ b) → Toward l (afterAll s a) b

@@ -16,11 +16,9 @@ use Rattle.page.specs.Page.{rowsOf, ascend, ascendRecords}
 use Rattle.page.proofs.Rows.{length-rowsOf}
 use Rattle.log.specs.Record.{Begin, Rec, LB, LO, LM, LE, into, lengthOf, kindOf, carried, size, encode}
 use Rattle.log.specs.Plan.{Step, takeOut, bringIn, point, close, plan}
-use Rattle.log.specs.Table.{kinds, kindAt}
-use Rattle.log.specs.Log.{largest, beginOk, readBegin}
+use Rattle.log.specs.Log.{beginOk, readBegin}
 use Rattle.log.specs.Stand.{stands, standsIn, standsModify, standsOut, standsBegin}
-use Rattle.log.specs.Scan.{lost, begun, went, ended, stepped, turned}
-use Rattle.log.specs.Source.{sourceRows}
+use Rattle.log.specs.Scan.{lost, begun, stepped, turned}
 use Rattle.log.specs.declared.scan.Walk.{Walk}
 use Rattle.log.specs.declared.steps.Planned.{Planned}
 use Rattle.log.specs.declared.steps.Planned.the-variants.{Out, In, Point, Close}
@@ -106,24 +104,6 @@ unfolding turned standsBegin
 turned-full l w x e h =
     let k : most4 < w .number + 1 = omega arith in
     e ∙ sym (either (w .opened) _ _ (step-full w _ _ _ k) (pick-false _ _ _ (both-none _ _ (stands-full (w .number + 1) _ _ k))))
-
--- ---- the record is there: the numbers after it
-
-module _ (w : Walk) (m : List ℕ) (t q : Bool) (g : not q ≡ false) (x : Walk) where
-  pub out-on! : (org dest z k v : ℕ) → x ≡ went w z k 0 v → z ≡ lengthOf (kindAt 2) k → k ≡ le2 m 16 → v ≡ largest (w .moved) (rowsOf 16 k (drop 20 m))
-      → q ≡ standsOut (w .number + 1) org dest m → x ≡ stepped w m t (takeOut org dest)
-  unfolding stepped kindAt kinds
-  out-on! org dest z k v e ez ek ev eq = on-pick x _ q _ (e ∙ rw (ez, ev, ek)) eq g
-
-  pub in-on! : (org dest back z r : ℕ) → x ≡ went w z 0 0 (w .moved) → z ≡ lengthOf (kindAt 3) 0 → r ≡ sourceRows w back
-      → q ≡ standsIn (w .number + 1) org dest back r m → x ≡ stepped w m t (bringIn org dest back)
-  unfolding stepped sourceRows kindAt kinds
-  in-on! org dest back z r e ez er eq = on-pick x _ q _ (e ∙ rw ez) (eq ∙ rw er) g
-
-  pub point-on! : (base old new z k : ℕ) (other : Bool) → x ≡ went w z 0 k (w .moved) → z ≡ lengthOf (kindAt 4) 0 → k ≡ le4 m 20
-      → q ≡ standsModify (w .number + 1) base old new m → x ≡ stepped w m t (point base old new other)
-  unfolding stepped kindAt kinds
-  point-on! base old new z k other e ez ek eq = on-pick x _ q _ (e ∙ rw (ez, ek)) eq g
 
 -- ---- the turn, by what the code lends
 

@@ -8,3 +8,4 @@ pub mod Log
 pub mod Stand
 pub mod Scan
 pub mod Source
+pub mod Carries

@@ -5,11 +5,13 @@ ghost use Prim.Native.Nat.{_+_, _-_, _*_, _≤_, _<_};
 ghost use lib.ListN.{length, drop, getD};
 ghost use lib.Dec.{eqb};
 ghost use Rattle.field.specs.Test.{pick};
-ghost use Rattle.log.specs.Plan.{takeOut, bringIn, point, close};
+ghost use Rattle.log.specs.Plan.{takeOut, bringIn, point, close, plan};
+ghost use Rattle.log.specs.Log.{beginOk, readBegin};
 ghost use Rattle.log.specs.Stand.{standsBegin};
 ghost use Rattle.log.specs.Steps.{stepOf};
-ghost use Rattle.log.specs.Scan.{lost, begun, went, ended, stepped, turned, Ready, topped, noted, live, finished, scanned};
+ghost use Rattle.log.specs.Scan.{lost, begun, stepped, turned, Ready, topped, noted, live, finished, scanned};
 use crate::kind;
+use crate::past;
 use crate::reading;
 use crate::source;
 use crate::steps;
@@ -71,39 +73,6 @@ fn lost() -> Walk
     }
 }
 
-// How many records the unit's first record carries, after one that carries `rows`.
-fn first_rows(done: usize, rows: u16, first: u16) -> u16
-    ensures { λ r. ⌜ r ≡ pick (eqb done 0) rows first ⌝ }
-{
-    if done == 0 {
-        return rows;
-    }
-    first
-}
-
-// After an LO, LI or LM of so many bytes.
-fn went(w: Walk, long: usize, rows: u16, key: u32, moved: u32) -> Walk
-    requires { ⌜ (w .number < 4294967295) × (w .at + long < 18446744073709551616) × (w .done < w .at + long) ⌝ }
-    ensures { λ r. ⌜ r ≡ went w long rows key moved ⌝ }
-{
-    Walk {
-        ok: true,
-        at: w.at + long,
-        number: w.number + 1,
-        unit: w.unit,
-        known: w.known,
-        lk: w.lk,
-        opened: true,
-        begin: w.begin,
-        done: w.done + 1,
-        last: w.at,
-        rows,
-        first: first_rows(w.done, rows, w.first),
-        key,
-        moved,
-    }
-}
-
 // An LB at the front of m.
 fn begin_turn(m: &[u8], w: Walk) -> Walk
     requires { ⌜ (w .number < 4294967295) × (w .at + length (now m) < 18446744073709551616) ⌝ }
@@ -115,23 +84,7 @@ fn begin_turn(m: &[u8], w: Walk) -> Walk
     if !reading::is_begin(m, w.number + 1, w.unit + 1) {
         return lost();
     }
-    let long = kind::size_of(kind::LB, 0);
-    Walk {
-        ok: true,
-        at: w.at + long,
-        number: w.number + 1,
-        unit: w.unit + 1,
-        known: w.known,
-        lk: w.lk,
-        opened: true,
-        begin: w.at,
-        done: 0,
-        last: w.at,
-        rows: 0,
-        first: 0,
-        key: 0,
-        moved: 0,
-    }
+    past::begun(w)
 }
 
 // The LO of a step at the front of m.
@@ -142,9 +95,7 @@ fn out_turn(m: &[u8], w: Walk, org: u16, dest: u16) -> Walk
     if !reading::is_out(m, w.number + 1, org, dest) {
         return lost();
     }
-    let k = field::get2(m, 16);
-    let moved = reading::largest_key(m, w.moved, 20, k);
-    went(w, kind::size_of(kind::LO, k), k, 0, moved)
+    past::taken_out(m, w)
 }
 
 // The LI of a step at the front of m.
@@ -156,7 +107,7 @@ fn in_turn(m: &[u8], w: Walk, org: u16, dest: u16, back: u32) -> Walk
     if !reading::is_in(m, 0, w.number + 1, org, dest, back, rows) {
         return lost();
     }
-    went(w, kind::size_of(kind::LI, 0), 0, 0, w.moved)
+    past::brought_in(w)
 }
 
 // The LM of a step at the front of m.
@@ -167,28 +118,7 @@ fn point_turn(m: &[u8], w: Walk, base: u16, old: u16, new: u16) -> Walk
     if !reading::is_modify(m, 0, w.number + 1, base, old, new) {
         return lost();
     }
-    let key = field::get4(m, 20);
-    went(w, kind::size_of(kind::LM, 0), 0, key, w.moved)
-}
-
-// LK after a unit has ended: whether it is there.
-fn known_after(compact: bool, known: bool) -> bool
-    ensures { λ r. ⌜ r ≡ pick compact true known ⌝ }
-{
-    if compact {
-        return true;
-    }
-    known
-}
-
-// LK after a unit has ended.
-fn lk_after(compact: bool, moved: u32, lk: u32) -> u32
-    ensures { λ r. ⌜ r ≡ pick compact moved lk ⌝ }
-{
-    if compact {
-        return moved;
-    }
-    lk
+    past::pointed(m, w)
 }
 
 // The LE of a unit at the front of m.
@@ -199,23 +129,7 @@ fn end_turn(m: &[u8], w: Walk, compact: bool, unit: u32) -> Walk
     if !reading::is_end(m, 0, w.number + 1, unit) {
         return lost();
     }
-    let long = kind::size_of(kind::LE, 0);
-    Walk {
-        ok: true,
-        at: w.at + long,
-        number: w.number + 1,
-        unit: w.unit,
-        known: known_after(compact, w.known),
-        lk: lk_after(compact, w.moved, w.lk),
-        opened: false,
-        begin: 0,
-        done: 0,
-        last: 0,
-        rows: 0,
-        first: 0,
-        key: 0,
-        moved: 0,
-    }
+    past::ended(w, compact)
 }
 
 // The record of a planned step at the front of m.
@@ -236,8 +150,20 @@ fn step_turn(m: &[u8], w: Walk, compact: bool, x: Planned) -> Walk
     }
 }
 
+// The step i of the unit whose begin record stands at the front of m, where it is known whether that is a compact. It has one caller, and
+// so is compiled in its place in the pass, where `steps::step_at` would be a call at each record.
+fn step_of(m: &[u8], compact: bool, unit: u32, i: usize) -> Planned
+    requires { ⌜ (44 ≤ length (now m)) × (beginOk (readBegin unit (now m)) ≡ true) × (compact ≡ eqb (getD (now m) 16 0) 1) ⌝ }
+    ensures { λ r. ⌜ stepOf r ≡ getD (plan (readBegin unit (now (m .entry)))) i (close unit) ⌝ }
+{
+    if compact {
+        return steps::compact_step(m, unit, i);
+    }
+    steps::other_step(m, unit, i)
+}
+
 // The next record of the log.
-pub fn turn(l: &[u8], w: Walk) -> Walk
+fn turn(l: &[u8], w: Walk) -> Walk
     requires { ⌜ Ready (now l) w ⌝ }
     ensures { λ r. ⌜ r ≡ turned (now (l .entry)) w ⌝ }
 {
@@ -250,7 +176,7 @@ pub fn turn(l: &[u8], w: Walk) -> Walk
         return begin_turn(&l[at..], w);
     }
     let compact = l[begin + 16] == 1;
-    let x = steps::step_at(&l[begin..], w.unit, w.done);
+    let x = step_of(&l[begin..], compact, w.unit, w.done);
     step_turn(&l[at..], w, compact, x)
 }
 

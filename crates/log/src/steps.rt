@@ -1,6 +1,6 @@
 // The steps of a unit, read off its begin record. Each function is lent the log's bytes from the begin record on.
 ghost use mathlib.Core.Path.{_≡_};
-ghost use mathlib.Core.Bool.{true};
+ghost use mathlib.Core.Bool.{true, false};
 ghost use mathlib.Core.List.{[], _∷_, _++_};
 ghost use Prim.Native.Nat.{_+_, _-_, _*_, _%_, _≤_, _<_};
 ghost use lib.ListN.{length, drop, getD};
@@ -123,7 +123,7 @@ fn skipped(first: u16, dest: u16) -> usize
 }
 
 // The step i of a compact.
-fn compact_step(m: &[u8], unit: u32, i: usize) -> Planned
+pub fn compact_step(m: &[u8], unit: u32, i: usize) -> Planned
     requires { ⌜ (44 ≤ length (now m)) × (beginOk (readBegin unit (now m)) ≡ true) × (getD (now m) 16 0 ≡ 1) ⌝ }
     ensures { λ r. ⌜ stepOf r ≡ getD (compactPlan (le2 (now (m .entry)) 20) (le2 (now (m .entry)) 40) (readFields (getD (now (m .entry)) 19 0) (drop 24 (now (m .entry)))) ++ (close unit ∷ [])) i (close unit) ⌝ }
 {
@@ -167,21 +167,28 @@ fn second_base(m: &[u8]) -> u16
     field::get2(m, 22)
 }
 
+// The step i of a swap or a move.
+pub fn other_step(m: &[u8], unit: u32, i: usize) -> Planned
+    requires { ⌜ (44 ≤ length (now m)) × (beginOk (readBegin unit (now m)) ≡ true) × (eqb (getD (now m) 16 0) 1 ≡ false) ⌝ }
+    ensures { λ r. ⌜ stepOf r ≡ getD (plan (readBegin unit (now (m .entry)))) i (close unit) ⌝ }
+{
+    let base = field::get2(m, 20);
+    let org = field::get2(m, 24);
+    if opening::byte_at(m, 16) == 2 {
+        return swap_step(base, second_base(m), org, field::get2(m, 26), unit, i);
+    }
+    move_step(base, org, field::get2(m, 40), unit, i)
+}
+
 // The step i of the unit whose begin record stands at the front of m; past its end, the end.
 pub fn step_at(m: &[u8], unit: u32, i: usize) -> Planned
     requires { ⌜ (44 ≤ length (now m)) × (beginOk (readBegin unit (now m)) ≡ true) ⌝ }
     ensures { λ r. ⌜ stepOf r ≡ getD (plan (readBegin unit (now (m .entry)))) i (close unit) ⌝ }
 {
-    let kind = opening::byte_at(m, 16);
-    if kind == 1 {
+    if opening::byte_at(m, 16) == 1 {
         return compact_step(m, unit, i);
     }
-    let base = field::get2(m, 20);
-    let org = field::get2(m, 24);
-    if kind == 2 {
-        return swap_step(base, second_base(m), org, field::get2(m, 26), unit, i);
-    }
-    move_step(base, org, field::get2(m, 40), unit, i)
+    other_step(m, unit, i)
 }
 
 // How many steps a unit has after its LB: of k leaves, 3 k - 2 in place and 3 k + 1 otherwise; a swap 7, a move 4.

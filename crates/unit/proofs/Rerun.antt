@@ -24,7 +24,7 @@ use Rattle.log.specs.declared.scan.Walk.{Walk}
 use Rattle.log.specs.declared.steps.Planned.{Planned}
 use Rattle.log.proofs.Valid.{Moved}
 use Rattle.log.proofs.Laid.{Sourced}
-use Rattle.log.proofs.Toward.{Toward, toward-first, toward-comes, toward-over, toward-ready, toward-turned, toward-room, toward-fits, toward-rest, toward-less, Comes, topped-read, shown-opened, shown-shut, Next, toward-next, toward-source, Takes, toward-begins, toward-record, toward-takes}
+use Rattle.log.proofs.Toward.{Toward, toward-first, toward-comes, toward-over, toward-ready, turned-ok, toward-turned, toward-room, toward-fits, toward-rest, toward-less, Comes, topped-read, shown-opened, shown-shut, Next, toward-next, toward-source, Takes, toward-begins, toward-record, toward-takes}
 use Rattle.unit.specs.Next.{target, changedAt, repeat, repeatAll}
 use Rattle.unit.specs.Made.{Did}
 use Rattle.unit.specs.Again.{Reads, nextStep, Ahead, redone, repeated, Repeated}
@@ -186,8 +186,11 @@ module _ (l v : List ℕ) (w : Walk) (u : List ℕ) (b : Bytes l) (p : Going l v
   pub going-ahead : Ahead l w
   going-ahead = subst (Ahead l) (sym (p .shows)) (ahead b here)
 
-  pub going-ready : Ready l w
-  going-ready = subst (Ready l) (sym (p .shows)) (toward-ready (p .toward))
+  turned-is : turned l w ≡ shown (after (p .state) (comes .next))
+  turned-is = ap (turned l) (p .shows) ∙ toward-turned here
+
+  pub going-past : Ready l w × ((turned l w) .ok ≡ true)
+  going-past = (subst (Ready l) (sym (p .shows)) (toward-ready (p .toward)), turned-ok l w (after (p .state) (comes .next)) turned-is)
 
   next-redone : redone l w u ≡ repeat (p .state .number + 1) (comes .next) u
   next-redone = ap (λ (x : Walk). redone l x u) (p .shows) ∙ redone-is b here u
@@ -219,7 +222,7 @@ module _ (l v : List ℕ) (w : Walk) (u : List ℕ) (b : Bytes l) (p : Going l v
 
     module _ (n : not z ≡ false) (w′ : Walk) (e : w′ ≡ turned l w) where
       turns : w′ ≡ shown (after (p .state) (comes .next))
-      turns = e ∙ ap (turned l) (p .shows) ∙ toward-turned here
+      turns = e ∙ turned-is
 
       pub going-more : length u′ ≡ length u → Going l v w′ u′
       unfolding after

@@ -14,6 +14,7 @@ ghost use Rattle.unit.specs.Again.{OutReads, InReads, PointReads, Reads,
 use crate::apply;
 use field::LogNo;
 use field::PageNo;
+use log::past;
 use log::scan;
 use log::scan::Walk;
 use log::source;
@@ -111,7 +112,7 @@ pub fn repeat_log(work: &mut [u8], log: &[u8]) -> bool
         if !repeat_at(work, log, w) {
             return false;
         }
-        w = scan::turn(log, w);
+        w = past::past(log, w);
     }
     true
 }

@@ -3,7 +3,7 @@ use Prim.Native.Nat.{_-_}
 use native.Mathlib.Omega.{arith}
 use borrow.Author.Needs.{needs}
 use Rattle.field.specs.Bytes.{Bytes}
-use Rattle.forward.proofs.Finishing.{Going, going-start, going-end, going-opened, going-stops, going-ready, going-more, going-less}
+use Rattle.forward.proofs.Finishing.{Going, going-start, going-end, going-opened, going-stops, going-past, going-more, going-less}
 use Rattle.forward.proofs.recovering.finish.Statement.{statement}
 use Rattle.forward.proofs.recovering.finish.Tie as tie
 
@@ -35,17 +35,17 @@ returns : tie.Need-returns Inv-loop μ-loop
 returns c =
     going-stops _ _ _ _ _ _ (c .before .before .before .before .before .before .before .before .before .loop .inv) (c .before .before .before .before .before .before .before .before .loop-test .taken) _ _ _ (c .before .before .before .before .before .append .ensures) (c .if1 .taken)
 
-turn-requires : tie.Need-turn-requires Inv-loop μ-loop
-turn-requires c κs =
-    going-ready _ _ _ _ _ _ (c .before .before .before .before .before .before .before .before .before .before .loop .inv) (c .before .before .before .before .before .before .before .before .before .loop-test .taken) _ _ _ (c .before .before .before .before .before .before .append .ensures) (c .before .if1 .left)
+past-requires : tie.Need-past-requires Inv-loop μ-loop
+past-requires c κs =
+    going-past _ _ _ _ _ _ (c .before .before .before .before .before .before .before .before .before .before .loop .inv) (c .before .before .before .before .before .before .before .before .before .loop-test .taken) _ _ _ (c .before .before .before .before .before .before .append .ensures) (c .before .if1 .left)
 
 loop-less : tie.Need-loop-less Inv-loop μ-loop
 loop-less c =
-    going-less _ _ _ _ _ _ (c .before .before .before .before .before .before .before .before .before .before .before .loop .inv) (c .before .before .before .before .before .before .before .before .before .before .loop-test .taken) _ _ _ (c .before .before .before .before .before .before .before .append .ensures) (c .before .before .if1 .left) _ (c .turn .ensures)
+    going-less _ _ _ _ _ _ (c .before .before .before .before .before .before .before .before .before .before .before .loop .inv) (c .before .before .before .before .before .before .before .before .before .before .loop-test .taken) _ _ _ (c .before .before .before .before .before .before .before .append .ensures) (c .before .before .if1 .left) _ (c .past .ensures)
 
 loop-again : tie.Need-loop-again Inv-loop μ-loop
 loop-again c =
-    going-more _ _ _ _ _ _ (c .before .before .before .before .before .before .before .before .before .before .before .loop .inv) (c .before .before .before .before .before .before .before .before .before .before .loop-test .taken) _ _ _ (c .before .before .before .before .before .before .before .append .ensures) (c .before .before .if1 .left) _ (c .turn .ensures)
+    going-more _ _ _ _ _ _ (c .before .before .before .before .before .before .before .before .before .before .before .loop .inv) (c .before .before .before .before .before .before .before .before .before .before .loop-test .taken) _ _ _ (c .before .before .before .before .before .before .before .append .ensures) (c .before .before .if1 .left) _ (c .past .ensures)
 
 same-length-3 : tie.Need-same-length-3 Inv-loop μ-loop
 same-length-3 c = search needs
@@ -67,7 +67,7 @@ finish-spec =
     same-length
     same-length-2
     returns
-    turn-requires
+    past-requires
     loop-less
     loop-again
     same-length-3

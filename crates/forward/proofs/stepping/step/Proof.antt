@@ -5,6 +5,7 @@ use lib.ListN.{length-drop}
 use borrow.Author.Tests.{not-true, not-false}
 use borrow.Rule.Slice.PartAt.{part-to-end}
 use Rattle.log.specs.Steps.{stepOf}
+use Rattle.log.proofs.Toward.{turned-ok}
 use Rattle.forward.specs.Appends.{nextStep}
 use Rattle.forward.proofs.Stands.{begin-room, begin-ok, step-read}
 use Rattle.forward.proofs.Steps.{step-no-work, step-no-log, step-no-form, step-no-unit, Past, past-opened, past-stands, past-target, step-no-page, Stepped, went-on, end-is, step-stops, step-steps}
@@ -132,11 +133,11 @@ returns-6 c =
     let x = e .before .before in
     step-stops (past (x .before .before .before .before)) _ (next-step x) _ (e .before .target-formed .ensures) (e .if5 .left) _ _ _ (a .append .ensures) (c .before .if6 .taken) _ _ _ (c .kept6 .ensures)
 
-turn-requires : tie.Need-turn-requires
-turn-requires c κs = made (c .before) .ready
+past-requires : tie.Need-past-requires
+past-requires c κs = let m = made (c .before) in (m .ready, turned-ok _ _ (m .state) (m .shows))
 
 cast-t26 : tie.Need-cast-t26
-cast-t26 c = record { fits = omega (arith, end-is (made (c .before .before .before)) _ (c .before .turn .ensures), made (c .before .before .before) .inside) }
+cast-t26 c = record { fits = omega (arith, end-is (made (c .before .before .before)) _ (c .before .past .ensures), made (c .before .before .before) .inside) }
 
 same-length-7 : tie.Need-same-length-7
 same-length-7 c = search needs
@@ -149,7 +150,7 @@ returns-7 c =
     let m = c .before .before .before in
     let e = m .before .before .before .before .before .before .before .before in
     let x = e .before .before in
-    step-steps (past (x .before .before .before .before)) _ (next-step x) _ (e .before .target-formed .ensures) (e .if5 .left) _ _ (made m) _ (c .before .turn .ensures)
+    step-steps (past (x .before .before .before .before)) _ (next-step x) _ (e .before .target-formed .ensures) (e .if5 .left) _ _ (made m) _ (c .before .past .ensures)
 
 pub step-spec : {M : Type 1} → statement M
 step-spec =
@@ -181,7 +182,7 @@ step-spec =
     same-length-5
     same-length-6
     returns-6
-    turn-requires
+    past-requires
     cast-t26
     same-length-7
     same-length-8

@@ -1,10 +1,6 @@
 -- `log::scan::begin_turn` meets its contract. Assumes nothing.
 use Prim.Native.Nat.{_+_, _<_}
 use native.Mathlib.Omega.{arith}
-use Rattle.log.specs.Record.{lengthOf}
-use Rattle.log.specs.Table.{kinds, kindAt}
-use mathlib.Core.Path.{refl}
-use Rattle.log.specs.Scan.{begun}
 use Rattle.log.proofs.Ways.{lost-pick, on-pick, begin-room, begin-last}
 use borrow.Author.Needs.{needs}
 use Rattle.log.proofs.scan.begin_turn.Statement.{statement}
@@ -31,22 +27,11 @@ lost-requires-2 c κs = search needs
 returns-2 : tie.Need-returns-2
 returns-2 c = lost-pick _ _ _ _ (c .lost2 .ensures) (c .before .before .is-begin .ensures) (c .before .if2 .taken)
 
-size-of-requires : tie.Need-size-of-requires
-size-of-requires c κs = search needs
-
-add-t8 : tie.Need-add-t8
-unfolding lengthOf kindAt kinds
-add-t8 c = omega (arith, begin-room _ (c .before .before .before .before .before .before .before .before .before .args .m .now) _ (c .before .before .if2 .left) _ (c .before .before .before .is-begin .ensures))
-
-add-t5 : tie.Need-add-t5
-add-t5 c = search needs
-
-add-t6 : tie.Need-add-t6
-add-t6 c = search needs
+begun-requires : tie.Need-begun-requires
+begun-requires c κs = let a = c .before .before .before .before .before .before .before in let r = begin-room _ (a .args .m .now) _ (c .if2 .left) _ (c .before .is-begin .ensures) in let u : a .args .w .unit < 4294967295 = omega (arith, c .before .before .before .before .if1 .left) in let k : a .args .w .at + 44 < 18446744073709551616 = omega (arith, r) in (a .pre .0, u, k)
 
 returns-3 : tie.Need-returns-3
-unfolding begun lengthOf kindAt kinds
-returns-3 c = on-pick _ _ _ _ (rw (c .before .before .before .size-of .ensures)) (c .before .before .before .before .before .is-begin .ensures) (c .before .before .before .before .if2 .left)
+returns-3 c = on-pick _ _ _ _ (c .begun .ensures) (c .before .before .is-begin .ensures) (c .before .if2 .left)
 
 pub begin-turn-spec : {M : Type 1} → statement M
 begin-turn-spec =
@@ -59,8 +44,5 @@ begin-turn-spec =
     is-begin-requires
     lost-requires-2
     returns-2
-    size-of-requires
-    add-t8
-    add-t5
-    add-t6
+    begun-requires
     returns-3)

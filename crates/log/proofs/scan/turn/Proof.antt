@@ -3,6 +3,7 @@ use native.Mathlib.Omega.{arith}
 use mathlib.Core.Path.{_≡_}
 use mathlib.Core.Bool.{true}
 use lib.ListN.{length, length-drop}
+use lib.Seq.{getD-drop}
 use borrow.Author.Tests.{not-false}
 use borrow.Rule.Slice.PartAt.{part-to-end}
 use Rattle.log.proofs.Ways.{turned-full, begin-turned, step-turned}
@@ -37,17 +38,17 @@ add-compact c = omega (arith, c .before .before .before .before .before .pre .ro
 shared-slice-read-compact : tie.Need-shared-slice-read-compact
 shared-slice-read-compact c = omega (arith, c .before .before .before .before .before .before .pre .room (not-false _ (c .before .if2 .left)))
 
-sub-step-at : tie.Need-sub-step-at
-sub-step-at c = omega (arith, c .before .before .before .before .before .before .pre .room (not-false _ (c .before .if2 .left)))
+sub-step-of : tie.Need-sub-step-of
+sub-step-of c = omega (arith, c .before .before .before .before .before .before .pre .room (not-false _ (c .before .if2 .left)))
 
-part-step-at-start : tie.Need-part-step-at-start
-part-step-at-start c = omega (arith, c .before .before .before .before .before .before .pre .room (not-false _ (c .before .if2 .left)))
+part-step-of-start : tie.Need-part-step-of-start
+part-step-of-start c = omega (arith, c .before .before .before .before .before .before .pre .room (not-false _ (c .before .if2 .left)))
 
-part-step-at-end : tie.Need-part-step-at-end
-part-step-at-end c = search needs
+part-step-of-end : tie.Need-part-step-of-end
+part-step-of-end c = search needs
 
-step-at-requires : tie.Need-step-at-requires
-step-at-requires c κs = let a = c .before .before .before .before .before .before .before in let h : a .args .w .opened ≡ true = not-false _ (c .before .before .if2 .left) in (rw (part-to-end, length-drop) (omega (arith, a .pre .room h)), rw part-to-end (a .pre .start h))
+step-of-requires : tie.Need-step-of-requires
+step-of-requires c κs = let a = c .before .before .before .before .before .before .before in let h : a .args .w .opened ≡ true = not-false _ (c .before .before .if2 .left) in (rw (part-to-end, length-drop) (omega (arith, a .pre .room h)), rw part-to-end (a .pre .start h), rw (part-to-end, getD-drop (a .args .w .begin) (a .args .l .now) 16 0))
 
 sub-step-turn : tie.Need-sub-step-turn
 sub-step-turn c = search needs
@@ -62,7 +63,7 @@ step-turn-requires : tie.Need-step-turn-requires
 step-turn-requires c κs = search needs
 
 returns-3 : tie.Need-returns-3
-returns-3 c = step-turned (c .before .before .before .before .before .before .before .before .before .before .args .l .now) _ _ (c .before .before .before .before .before .if2 .left) _ (c .before .before .step-at .ensures) (c .step-turn .ensures)
+returns-3 c = step-turned (c .before .before .before .before .before .before .before .before .before .before .args .l .now) _ _ (c .before .before .before .before .before .if2 .left) _ (c .before .before .step-of .ensures) (c .step-turn .ensures)
 
 pub turn-spec : {M : Type 1} → statement M
 turn-spec =
@@ -77,10 +78,10 @@ turn-spec =
     returns-2
     add-compact
     shared-slice-read-compact
-    sub-step-at
-    part-step-at-start
-    part-step-at-end
-    step-at-requires
+    sub-step-of
+    part-step-of-start
+    part-step-of-end
+    step-of-requires
     sub-step-turn
     part-step-turn-start
     part-step-turn-end

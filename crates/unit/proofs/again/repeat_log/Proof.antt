@@ -5,7 +5,7 @@ use mathlib.Core.Path.{sym, _∙_}
 use lib.ListN.{length}
 use borrow.Author.Needs.{needs}
 use Rattle.field.specs.Bytes.{Bytes}
-use Rattle.unit.proofs.Rerun.{Going, going-start, going-end, going-ahead, going-ready, going-stops, going-more, going-less}
+use Rattle.unit.proofs.Rerun.{Going, going-start, going-end, going-ahead, going-past, going-stops, going-more, going-less}
 use Rattle.unit.proofs.again.repeat_log.Statement.{statement}
 use Rattle.unit.proofs.again.repeat_log.Tie as tie
 
@@ -43,23 +43,23 @@ returns c =
     let y : Bytes (a .args .log .now) = λ i. omega (arith, c .before .before .before .before .before .before .before .before .before .shared-slice-known .given i) in
     going-stops (a .args .log .now) (a .args .work .now) _ _ y (c .before .before .before .before .before .before .before .loop .inv) (sym (c .before .before .before .before .before .before .live .ensures) ∙ c .before .before .before .before .before .if1 .taken) _ _ (c .before .before .before .repeat-at .ensures) (c .if2 .taken)
 
-turn-requires : tie.Need-turn-requires Inv-loop μ-loop
-turn-requires c κs =
+past-requires : tie.Need-past-requires Inv-loop μ-loop
+past-requires c κs =
     let a = c .before .before .before .before .before .before .before .before .before .before .before in
     let y : Bytes (a .args .log .now) = λ i. omega (arith, c .before .before .before .before .before .before .before .before .before .shared-slice-known .given i) in
-    going-ready (a .args .log .now) (a .args .work .now) _ _ y (c .before .before .before .before .before .before .before .loop .inv) (sym (c .before .before .before .before .before .before .live .ensures) ∙ c .before .before .before .before .before .if1 .taken)
+    going-past (a .args .log .now) (a .args .work .now) _ _ y (c .before .before .before .before .before .before .before .loop .inv) (sym (c .before .before .before .before .before .before .live .ensures) ∙ c .before .before .before .before .before .if1 .taken)
 
 loop-less : tie.Need-loop-less Inv-loop μ-loop
 loop-less c =
     let a = c .before .before .before .before .before .before .before .before .before .before .before .before in
     let y : Bytes (a .args .log .now) = λ i. omega (arith, c .before .before .before .before .before .before .before .before .before .before .shared-slice-known .given i) in
-    going-less (a .args .log .now) (a .args .work .now) _ _ y (c .before .before .before .before .before .before .before .before .loop .inv) (sym (c .before .before .before .before .before .before .before .live .ensures) ∙ c .before .before .before .before .before .before .if1 .taken) _ _ (c .before .before .before .before .repeat-at .ensures) (c .before .if2 .left) _ (c .turn .ensures)
+    going-less (a .args .log .now) (a .args .work .now) _ _ y (c .before .before .before .before .before .before .before .before .loop .inv) (sym (c .before .before .before .before .before .before .before .live .ensures) ∙ c .before .before .before .before .before .before .if1 .taken) _ _ (c .before .before .before .before .repeat-at .ensures) (c .before .if2 .left) _ (c .past .ensures)
 
 loop-again : tie.Need-loop-again Inv-loop μ-loop
 loop-again c =
     let a = c .before .before .before .before .before .before .before .before .before .before .before .before in
     let y : Bytes (a .args .log .now) = λ i. omega (arith, c .before .before .before .before .before .before .before .before .before .before .shared-slice-known .given i) in
-    going-more (a .args .log .now) (a .args .work .now) _ _ y (c .before .before .before .before .before .before .before .before .loop .inv) (sym (c .before .before .before .before .before .before .before .live .ensures) ∙ c .before .before .before .before .before .before .if1 .taken) _ _ (c .before .before .before .before .repeat-at .ensures) (c .before .if2 .left) _ (c .turn .ensures) (c .before .before .before .before .repeat-at .kept .0)
+    going-more (a .args .log .now) (a .args .work .now) _ _ y (c .before .before .before .before .before .before .before .before .loop .inv) (sym (c .before .before .before .before .before .before .before .live .ensures) ∙ c .before .before .before .before .before .before .if1 .taken) _ _ (c .before .before .before .before .repeat-at .ensures) (c .before .if2 .left) _ (c .past .ensures) (c .before .before .before .before .repeat-at .kept .0)
 
 same-length-2 : tie.Need-same-length-2 Inv-loop μ-loop
 same-length-2 c = search needs
@@ -81,7 +81,7 @@ repeat-log-spec =
     repeat-at-requires
     same-length
     returns
-    turn-requires
+    past-requires
     loop-less
     loop-again
     same-length-2

@@ -1,8 +1,8 @@
--- `log::scan::first_rows` meets its contract. Assumes nothing.
+-- `log::past::first_rows` meets its contract. Assumes nothing.
 use borrow.Author.Tests.{eq-eqb, ne-eqb}
 use Rattle.field.specs.Test.{pick}
-use Rattle.log.proofs.scan.first_rows.Statement.{statement}
-use Rattle.log.proofs.scan.first_rows.Tie as tie
+use Rattle.log.proofs.past.first_rows.Statement.{statement}
+use Rattle.log.proofs.past.first_rows.Tie as tie
 
 returns : tie.Need-returns
 unfolding pick

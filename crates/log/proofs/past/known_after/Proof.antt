@@ -1,7 +1,7 @@
--- `log::scan::known_after` meets its contract. Assumes nothing.
+-- `log::past::known_after` meets its contract. Assumes nothing.
 use Rattle.field.specs.Test.{pick}
-use Rattle.log.proofs.scan.known_after.Statement.{statement}
-use Rattle.log.proofs.scan.known_after.Tie as tie
+use Rattle.log.proofs.past.known_after.Statement.{statement}
+use Rattle.log.proofs.past.known_after.Tie as tie
 
 returns : tie.Need-returns
 unfolding pick

@@ -1,7 +1,7 @@
--- `log::scan::lk_after` meets its contract. Assumes nothing.
+-- `log::past::lk_after` meets its contract. Assumes nothing.
 use Rattle.field.specs.Test.{pick}
-use Rattle.log.proofs.scan.lk_after.Statement.{statement}
-use Rattle.log.proofs.scan.lk_after.Tie as tie
+use Rattle.log.proofs.past.lk_after.Statement.{statement}
+use Rattle.log.proofs.past.lk_after.Tie as tie
 
 returns : tie.Need-returns
 unfolding pick

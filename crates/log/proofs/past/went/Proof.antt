@@ -1,8 +1,8 @@
--- `log::scan::went` meets its contract. Assumes nothing.
+-- `log::past::went` meets its contract. Assumes nothing.
 use Rattle.log.specs.Scan.{went}
 use borrow.Author.Needs.{needs}
-use Rattle.log.proofs.scan.went.Statement.{statement}
-use Rattle.log.proofs.scan.went.Tie as tie
+use Rattle.log.proofs.past.went.Statement.{statement}
+use Rattle.log.proofs.past.went.Tie as tie
 
 add-t6 : tie.Need-add-t6
 add-t6 c = search needs

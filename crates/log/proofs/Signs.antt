@@ -1,0 +1,185 @@
+-- Past a record that is there: its mark says which one it is, and its bytes give the numbers after it. Assumes nothing.
+use Prim.Native.Nat.{ℕ, _+_, _≤_, _<_}
+use native.Mathlib.Omega.{arith}
+use mathlib.Core.Path.{_≡_, refl, sym, ap, _∙_, subst}
+use mathlib.Core.Bool.{Bool, true, false, false≢true}
+use mathlib.Core.List.{List, _++_}
+use lib.ListN.{length, drop, getD}
+use lib.Seq.{getD-drop}
+use lib.Dec.{eqb}
+use borrow.Author.Tests.{eq-eqb, leb-true}
+use Rattle.field.specs.Test.{pick}
+use Rattle.field.specs.Bytes.{starts, le2, le4, most4}
+use Rattle.field.proofs.Test.{all-head, all-tail, both-1, both-2, pick-true, pick-false}
+use Rattle.field.proofs.Same.{starts-eq}
+use Rattle.page.specs.Page.{rowsOf}
+use Rattle.log.specs.Record.{Kind, Rec, LM, LE, out, into, modify, lengthOf, kindOf, size, header, body, previous, encode}
+use Rattle.log.specs.Write.{paged, inBytes}
+use Rattle.log.specs.Plan.{Step, takeOut, bringIn, point, close}
+use Rattle.log.specs.Log.{largest, beginOk, readBegin}
+use Rattle.log.specs.Stand.{stands, standsIn, standsModify, standsOut, standsBegin}
+use Rattle.log.specs.Scan.{lost, begun, went, ended, stepped, turned}
+use Rattle.log.specs.Carries.{Carries}
+use Rattle.log.specs.declared.scan.Walk.{Walk}
+use Rattle.log.proofs.Ways.{end-room, modify-room, in-room, begin-room, out-room, out-rows}
+
+-- ---- the mark of a record that stands there
+
+header-sign : (c : Kind) (long n before : ℕ) (e m : List ℕ) → starts (header c long n before ++ e) m ≡ true → getD m 1 0 ≡ c .sign
+unfolding header
+header-sign c long n before e m t = ap (λ (x : List ℕ). getD x 1 0) (starts-eq (header c long n before ++ e) m t)
+
+stands-sign : (n : ℕ) (r : Rec) (m : List ℕ) → stands n r m ≡ true → getD m 1 0 ≡ kindOf r .sign
+unfolding stands encode
+stands-sign n r m e = header-sign (kindOf r) (size r) n (previous n r) (body n r) m (all-head _ _ (all-tail _ _ (all-tail _ _ e)))
+
+in-sign : (n org dest back k : ℕ) (m : List ℕ) → standsIn n org dest back k m ≡ true → getD m 1 0 ≡ 73
+unfolding standsIn inBytes paged header
+in-sign n org dest back k m e =
+    ap (λ (x : List ℕ). getD x 1 0) (starts-eq (inBytes n org dest back k) m (all-head _ _ (all-tail _ _ (all-tail _ _ e))))
+
+-- ---- and its number
+
+stands-number : (n : ℕ) (r : Rec) (m : List ℕ) → stands n r m ≡ true → n ≤ most4
+unfolding stands
+stands-number n r m e = leb-true n most4 (all-head _ _ e)
+
+in-number : (n org dest back k : ℕ) (m : List ℕ) → standsIn n org dest back k m ≡ true → n ≤ most4
+unfolding standsIn
+in-number n org dest back k m e = leb-true n most4 (all-head _ _ e)
+
+-- ---- the ways past it, by the sign g
+
+-- y: the numbers after the record at the front of m; t: the unit is a compact
+pub record Way (g : ℕ) (w : Walk) (m : List ℕ) (t : Bool) (y : Walk) : Type 0 where
+  pub number : w .number < 4294967295
+  pub room : 16 ≤ length m
+  pub takes : g ≡ 79 → Carries m × (y ≡ went w (lengthOf out (le2 m 16)) (le2 m 16) 0 (largest (w .moved) (rowsOf 16 (le2 m 16) (drop 20 m))))
+  pub brings : g ≡ 73 → (24 ≤ length m) × (y ≡ went w (lengthOf into 0) 0 0 (w .moved))
+  pub points : g ≡ 77 → (28 ≤ length m) × (y ≡ went w (lengthOf modify 0) 0 (le4 m 20) (w .moved))
+  pub begins : g ≡ 66 → (44 ≤ length m) × (w .unit < 4294967295) × (y ≡ begun w)
+  pub ends : (g ≡ 79 → ⊥) → (g ≡ 73 → ⊥) → (g ≡ 77 → ⊥) → (g ≡ 66 → ⊥) → (w .opened ≡ true) × (y ≡ ended w t)
+
+-- a sign is not another
+other : {A : Type 0} (a b g : ℕ) → eqb a b ≡ false → g ≡ a → g ≡ b → A
+other a b g e p q = absurd (false≢true (sym e ∙ eq-eqb a b (sym p ∙ q)))
+
+-- the record is there
+there-by : (z : Bool) (v : Walk) → (pick z v lost) .ok ≡ true → z ≡ true
+unfolding pick lost
+there-by true v e = refl
+there-by false v e = absurd (false≢true e)
+
+module _ (w : Walk) (m : List ℕ) (t : Bool) where
+  way-out : (org dest : ℕ) → standsOut (w .number + 1) org dest m ≡ true
+      → Way (getD m 1 0) w m t (pick (standsOut (w .number + 1) org dest m) (went w (lengthOf out (le2 m 16)) (le2 m 16) 0 (largest (w .moved) (rowsOf 16 (le2 m 16) (drop 20 m)))) lost)
+  unfolding standsOut kindOf
+  way-out org dest h =
+      let s = stands-sign (w .number + 1) _ m (both-2 _ _ h) in
+      let n = stands-number (w .number + 1) _ m (both-2 _ _ h) in
+      let r = out-room (w .number + 1) m true refl org dest (sym h) in
+      let o = out-rows (w .number + 1) m true refl org dest (sym h) in
+      record {
+        number = omega (arith, n);
+        room = omega (arith, r .0);
+        takes = λ q. (record { room = r .0; some = o .0; few = r .1; rising = o .1 }, pick-true _ _ _ h);
+        brings = other 79 73 (getD m 1 0) refl s;
+        points = other 79 77 (getD m 1 0) refl s;
+        begins = other 79 66 (getD m 1 0) refl s;
+        ends = λ a b c d. absurd (a s);
+      }
+
+  way-in : (org dest back k : ℕ) → standsIn (w .number + 1) org dest back k m ≡ true
+      → Way (getD m 1 0) w m t (pick (standsIn (w .number + 1) org dest back k m) (went w (lengthOf into 0) 0 0 (w .moved)) lost)
+  way-in org dest back k h =
+      let s = in-sign (w .number + 1) org dest back k m h in
+      let n = in-number (w .number + 1) org dest back k m h in
+      let r = in-room (w .number + 1) m true refl org dest back k (sym h) in
+      record {
+        number = omega (arith, n);
+        room = omega (arith, r);
+        takes = other 73 79 (getD m 1 0) refl s;
+        brings = λ q. (r, pick-true _ _ _ h);
+        points = other 73 77 (getD m 1 0) refl s;
+        begins = other 73 66 (getD m 1 0) refl s;
+        ends = λ a b c d. absurd (b s);
+      }
+
+  way-point : (base old new : ℕ) → standsModify (w .number + 1) base old new m ≡ true
+      → Way (getD m 1 0) w m t (pick (standsModify (w .number + 1) base old new m) (went w (lengthOf modify 0) 0 (le4 m 20) (w .moved)) lost)
+  unfolding standsModify kindOf
+  way-point base old new h =
+      let s = stands-sign (w .number + 1) (LM base old new (le4 m 20)) m h in
+      let n = stands-number (w .number + 1) (LM base old new (le4 m 20)) m h in
+      let r = modify-room (w .number + 1) m true refl base old new (sym h) in
+      record {
+        number = omega (arith, n);
+        room = omega (arith, r);
+        takes = other 77 79 (getD m 1 0) refl s;
+        brings = other 77 73 (getD m 1 0) refl s;
+        points = λ q. (r, pick-true _ _ _ h);
+        begins = other 77 66 (getD m 1 0) refl s;
+        ends = λ a b c d. absurd (c s);
+      }
+
+  way-end : (u : ℕ) → stands (w .number + 1) (LE u) m ≡ true → w .opened ≡ true → Way (getD m 1 0) w m t (pick (stands (w .number + 1) (LE u) m) (ended w t) lost)
+  unfolding kindOf
+  way-end u h op =
+      let s = stands-sign (w .number + 1) (LE u) m h in
+      let n = stands-number (w .number + 1) (LE u) m h in
+      let r = end-room (w .number + 1) m true refl u (sym h) in
+      record {
+        number = omega (arith, n);
+        room = r;
+        takes = other 69 79 (getD m 1 0) refl s;
+        brings = other 69 73 (getD m 1 0) refl s;
+        points = other 69 77 (getD m 1 0) refl s;
+        begins = other 69 66 (getD m 1 0) refl s;
+        ends = λ a b c d. (op, pick-true _ _ _ h);
+      }
+
+  way-begin : standsBegin (w .number + 1) (w .unit + 1) m ≡ true → Way (getD m 1 0) w m t (pick (standsBegin (w .number + 1) (w .unit + 1) m) (begun w) lost)
+  unfolding standsBegin beginOk readBegin kindOf
+  way-begin h =
+      let s = stands-sign (w .number + 1) _ m (both-2 _ _ h) in
+      let n = stands-number (w .number + 1) _ m (both-2 _ _ h) in
+      let u = leb-true (w .unit + 1) most4 (all-head _ _ (both-1 _ _ h)) in
+      let r = begin-room (w .number + 1) m true refl (w .unit + 1) (sym h) in
+      record {
+        number = omega (arith, n);
+        room = omega (arith, r);
+        takes = other 66 79 (getD m 1 0) refl s;
+        brings = other 66 73 (getD m 1 0) refl s;
+        points = other 66 77 (getD m 1 0) refl s;
+        begins = λ q. (r, omega (arith, u), pick-true _ _ _ h);
+        ends = λ a b c d. absurd (d s);
+      }
+
+  way-step : (x : Step) → (stepped w m t x) .ok ≡ true → w .opened ≡ true → Way (getD m 1 0) w m t (stepped w m t x)
+  unfolding stepped
+  way-step (takeOut org dest) e op = way-out org dest (there-by _ _ e)
+  way-step (bringIn org dest back) e op = way-in org dest back _ (there-by _ _ e)
+  way-step (point base old new other) e op = way-point base old new (there-by _ _ e)
+  way-step (close u) e op = way-end u (there-by _ _ e) op
+
+-- ---- the next record of the log
+
+module _ (l : List ℕ) (w : Walk) where
+  way-lent : Way (getD (drop (w .at) l) 1 0) w (drop (w .at) l) (eqb (getD (drop (w .begin) l) 16 0) 1) (turned l w)
+      → Way (getD l (w .at + 1) 0) w (drop (w .at) l) (eqb (getD l (w .begin + 16) 0) 1) (turned l w)
+  way-lent a =
+      subst (λ (g : ℕ). Way g w (drop (w .at) l) (eqb (getD l (w .begin + 16) 0) 1) (turned l w)) (getD-drop (w .at) l 1 0)
+      (subst (λ (g : ℕ). Way (getD (drop (w .at) l) 1 0) w (drop (w .at) l) (eqb g 1) (turned l w)) (getD-drop (w .begin) l 16 0) a)
+
+  way-by : (b : Bool) → w .opened ≡ b → (turned l w) .ok ≡ true
+      → Way (getD (drop (w .at) l) 1 0) w (drop (w .at) l) (eqb (getD (drop (w .begin) l) 16 0) 1) (turned l w)
+  unfolding turned
+  way-by true op e =
+      let q = pick-true (w .opened) _ _ op in
+      subst (Way _ w _ _) (sym q) (way-step w (drop (w .at) l) _ _ (sym (ap (λ (y : Walk). y .ok) q) ∙ e) op)
+  way-by false op e =
+      let q = pick-false (w .opened) _ _ op in
+      subst (Way _ w _ _) (sym q) (way-begin w (drop (w .at) l) _ (there-by _ _ (sym (ap (λ (y : Walk). y .ok) q) ∙ e)))
+
+  pub way-past : (turned l w) .ok ≡ true → Way (getD l (w .at + 1) 0) w (drop (w .at) l) (eqb (getD l (w .begin + 16) 0) 1) (turned l w)
+  way-past e = way-lent (way-by (w .opened) refl e)

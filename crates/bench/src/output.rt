@@ -34,8 +34,20 @@ pub fn recovered(at: State, a: RecoverAnswer) -> State {
 pub fn found(at: State, a: FindAnswer) -> State {
     let f = a.found;
     let value = f.value;
-    io::write_all(libc::STDOUT_FILENO, &[f.reply]);
-    io::write_all(libc::STDOUT_FILENO, &value);
+    let bytes = [
+        f.reply,
+        value[0],
+        value[1],
+        value[2],
+        value[3],
+        value[4],
+        value[5],
+        value[6],
+        value[7],
+        value[8],
+        value[9],
+    ];
+    io::write_all(libc::STDOUT_FILENO, &bytes);
     let numbers = a.numbers;
     state::with_numbers(at, numbers)
 }

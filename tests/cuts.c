@@ -8,30 +8,16 @@
  * supply is cut in every way that the chip allows: so many of the unforced records are kept. Recovery must be accepted and find exactly the
  * starting records. Then recovery itself is cut after each of the records that it appended, and the one that follows must leave the very
  * same pages and log. */
-#include "../include/uhtlight.h"
+#include "state.h"
 
 int printf(const char *format, ...);
 
-enum { LEAVES = 25, FILL = 4, RECORDS = LEAVES * FILL, UNDER = 7, SPREAD = 40, STRIDE = 11, FIRST_LEAF = 8 };
-
-/* All that a store is. */
-struct state {
-    struct uhtlight_numbers numbers;
-    uint8_t work[UHTLIGHT_STORE_BYTES];
-    uint8_t store[UHTLIGHT_STORE_BYTES];
-    uint8_t log[UHTLIGHT_LOG_BYTES];
-};
+enum { LEAVES = 25, FILL = 4, RECORDS = LEAVES * FILL, UNDER = 7, SPREAD = 40, STRIDE = 11 };
 
 static struct state now;
 static uint8_t records[RECORDS * UHTLIGHT_RECORD];
 static unsigned long writes, cuts, inner_cuts, passed, failed;
 static bool faulty;
-
-static void copy(uint8_t *to, const uint8_t *from, size_t count)
-{
-    for (size_t i = 0; i < count; i++)
-        to[i] = from[i];
-}
 
 static bool same(const uint8_t *a, const uint8_t *b, size_t count)
 {
@@ -50,11 +36,6 @@ static void check(bool ok, const char *what)
 }
 
 static uint32_t record_length(const uint8_t *log, uint32_t at) { return log[at + 2] | (uint32_t)log[at + 3] << 8; }
-
-static struct uhtlight_recovered recover(struct state *s)
-{
-    return uhtlight_recover(&s->numbers, s->work, sizeof s->work, s->store, sizeof s->store, s->log, sizeof s->log);
-}
 
 /* ---- a cut */
 
@@ -182,44 +163,15 @@ static unsigned tidy(bool packing)
 
 /* ---- the start */
 
-static void make_records(void)
-{
-    for (uint32_t i = 0; i < RECORDS; i++) {
-        uint8_t *record = records + UHTLIGHT_RECORD * i;
-        uint32_t key = 3 * i;
-        record[0] = 'r';
-        record[1] = 'c';
-        record[2] = (uint8_t)key;
-        record[3] = (uint8_t)(key >> 8);
-        for (uint8_t b = 0; b < 10; b++)
-            record[6 + b] = (uint8_t)(7 * i + b);
-    }
-}
-
-/* Leaf i, built on page 8 + i, goes to page 8 + 11 i modulo 40. */
-static void scatter(void)
-{
-    static uint8_t built[UHTLIGHT_STORE_BYTES];
-    copy(built, now.store, sizeof built);
-    const uint8_t *empty = built + UHTLIGHT_PAGE * (size_t)(UHTLIGHT_PAGES - 1);
-    for (size_t p = FIRST_LEAF; p < UHTLIGHT_PAGES; p++)
-        copy(now.store + UHTLIGHT_PAGE * p, empty, UHTLIGHT_PAGE);
-    for (size_t i = 0; i < LEAVES; i++) {
-        size_t to = FIRST_LEAF + STRIDE * i % SPREAD;
-        copy(now.store + UHTLIGHT_PAGE * to, built + UHTLIGHT_PAGE * (FIRST_LEAF + i), UHTLIGHT_PAGE);
-        uint8_t *base = now.store + UHTLIGHT_PAGE * (1 + i / UNDER);
-        base[16 + 8 * (i % UNDER) + 6] = (uint8_t)to;
-    }
-}
+static size_t place(size_t leaf) { return FIRST_LEAF + STRIDE * leaf % SPREAD; }
 
 int main(int count, char **words)
 {
     (void)words;
     faulty = count > 1;
-    make_records();
-    uint8_t reply = uhtlight_build(&now.numbers, now.work, sizeof now.work, now.store, sizeof now.store, now.log, sizeof now.log, records, sizeof records, FILL, UNDER);
-    check(reply == UHTLIGHT_DONE, "build refused");
-    scatter();
+    make_records(records, RECORDS, 3);
+    check(build(&now, records, sizeof records, FILL, UNDER) == UHTLIGHT_DONE, "build refused");
+    scatter(&now, LEAVES, UNDER, place);
     check(recover(&now).reply == UHTLIGHT_DONE && whole(&now), "the start is no store");
     unsigned packed = tidy(true), ordered = tidy(false);
     settle();

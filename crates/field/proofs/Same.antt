@@ -3,15 +3,15 @@ use Prim.Native.Nat.{ℕ, _+_, _≤_, _<_}
 use native.Mathlib.Numerals.{add-one}
 use native.Mathlib.Omega.{arith}
 use mathlib.Core.Path.{_≡_, refl, sym, ap, ap₂, _∙_}
-use mathlib.Core.Bool.{Bool, true, false, false≢true}
+use mathlib.Core.Bool.{Bool, true, false, false≢true, _&&_}
 use mathlib.Core.List.{List, [], _∷_, _++_}
 use lib.ListN.{length, take, drop, getD, drop-of-length-le, take-append-drop, length-take}
 use lib.Seq.{take-append-seam, drop-cons}
 use lib.Dec.{eqb}
-use borrow.Author.Tests.{eqb-true, eq-eqb, ne-eqb}
+use borrow.Author.Tests.{eqb-true, eq-eqb}
 use Rattle.field.specs.Test.{both}
 use Rattle.field.specs.Bytes.{same, starts}
-use Rattle.field.proofs.Test.{both-1, both-2, both-intro, both-true, both-false}
+use Rattle.field.proofs.Test.{both-1, both-2, both-intro, both-end}
 
 pub same-eq : (a b : List ℕ) → same a b ≡ true → a ≡ b
 unfolding same
@@ -47,18 +47,24 @@ same-next a b i h k = rw (add-one, drop-cons a i 0 h, drop-cons b i 0 k)
 pub same-long! : (a b : List ℕ) → (length a ≡ length b → ⊥) → false ≡ same a b
 same-long! a b f = sym (ne-same a b (λ e. f (ap length e)))
 
-module _ (a b : List ℕ) (i : ℕ) (e : same a b ≡ same (drop i a) (drop i b)) (l : length a ≡ length b) where
-  pub same-end! : length a ≤ i → true ≡ same a b
+and-both : (x y z : Bool) → both x (both y z) ≡ both (x && y) z
+unfolding both
+and-both true y z = refl
+and-both false y z = refl
+
+pub same-none! : (a b : List ℕ) → same a b ≡ both true (same (drop 0 a) (drop 0 b))
+unfolding both
+same-none! a b = refl
+
+module _ (a b : List ℕ) (ok : Bool) (i : ℕ) (e : same a b ≡ both ok (same (drop i a) (drop i b))) (l : length a ≡ length b) where
+  pub same-end! : length a ≤ i → ok ≡ same a b
   unfolding same
   same-end! h =
       let k : length b ≤ i = omega arith in
-      sym (e ∙ rw (drop-of-length-le a h, drop-of-length-le b k))
+      sym (e ∙ rw (drop-of-length-le a h, drop-of-length-le b k) (both-end ok))
 
-  pub same-stop! : i < length a → (getD a i 0 ≡ getD b i 0 → ⊥) → false ≡ same a b
-  same-stop! h f = sym (e ∙ same-next a b i h (omega arith) ∙ both-false _ _ (ne-eqb (getD a i 0) (getD b i 0) f))
-
-  pub same-more! : i < length a → getD a i 0 ≡ getD b i 0 → same a b ≡ same (drop (i + 1) a) (drop (i + 1) b)
-  same-more! h f = e ∙ same-next a b i h (omega arith) ∙ both-true _ _ (eq-eqb (getD a i 0) (getD b i 0) f)
+  pub same-more! : i < length a → same a b ≡ both (ok && eqb (getD a i 0) (getD b i 0)) (same (drop (i + 1) a) (drop (i + 1) b))
+  same-more! h = e ∙ rw (same-next a b i h (omega arith)) (and-both ok (eqb (getD a i 0) (getD b i 0)) (same (drop (i + 1) a) (drop (i + 1) b)))
 
 -- ---- a list that begins with e
 

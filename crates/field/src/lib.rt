@@ -116,21 +116,20 @@ pub fn zeros_long(s: &[u8]) -> bool
     seen == 0
 }
 
-// Whether two runs of bytes are the same.
+// Whether two runs of bytes are the same. No byte ends the loop early, as in zeros.
 pub fn same_bytes(a: &[u8], b: &[u8]) -> bool
     ensures { λ r. ⌜ r ≡ same (now (a .entry)) (now (b .entry)) ⌝ }
 {
     if a.len() != b.len() {
         return false;
     }
+    let mut ok = true;
     let mut i = 0;
     while i < a.len() {
-        if a[i] != b[i] {
-            return false;
-        }
+        ok = ok & (a[i] == b[i]);
         i += 1;
     }
-    true
+    ok
 }
 
 // Writes the bytes of rs over s, from the offset at.

@@ -12,18 +12,20 @@ use borrow.Author.Tests.{eq-eqb, ne-eqb, le-leb, lt-leb, leb-true, not-true, not
 use Rattle.field.specs.Test.{both, pick, given}
 use Rattle.field.specs.Bytes.{part, put, zeroes, le2, le4}
 use Rattle.field.proofs.Test.{both-1, both-2, both-true, both-false, pick-either, need-true, need-false}
-use Rattle.field.proofs.Part.{part-drop, part-part, length-part, lent-part, put-front}
-use Rattle.page.specs.Page.{rowsOf, keyOf, toPage, valueOf, pointing, letter, count, rows, entries, records, isEmpty, formed}
+use Rattle.field.proofs.Part.{split, part-drop, part-part, length-part, lent-part, put-front}
+use Rattle.page.specs.Page.{root, base, leaf, empty, rowsOf, keyOf, toPage, valueOf, pointing, letter, count, rows, entries, records, isRoot, isBase, isLeaf, isEmpty, formed}
 use Rattle.page.specs.Pages.{page}
 use Rattle.page.proofs.Rows.{rowsOf-add, key-row, page-row}
 use Rattle.page.proofs.Turns.{rows-next}
+use Rattle.page.proofs.Made.{shaped-facts}
+use Rattle.page.proofs.Region.{formed-0, formed-low, formed-high, leaf-formed, root-shaped, base-shaped, leaf-shaped, empty-shaped}
 use Rattle.tree.specs.Answer.{Found, missing, found, lastNotAbove, recordWith, readable, inLeaf, lookUp}
 use Rattle.tree.specs.Answer as answer
 use Rattle.tree.specs.Way.{lastTo, passable, wayOn, wayDown, recordIn, leafIn, replyOf, bytesOf}
 use Rattle.tree.specs.declared.find.Way.{Way}
 use Rattle.tree.specs.declared.find.Way.the-variants.{Refused, To}
 use Rattle.tree.proofs.Turn.{none-left}
-use Rattle.tree.proofs.Regions.{decide, entries-ordered, records-ordered, root-points, base-points, letter-empty, letter-full}
+use Rattle.tree.proofs.Regions.{decide, entries-ordered, records-ordered, root-points, base-points, letter-full}
 
 -- n rows, the last of them apart
 pub rows-last : (sz n at : ℕ) (l : List ℕ) → 0 < n → rowsOf sz n (drop at l) ≡ rowsOf sz (n - 1) (drop at l) ++ (part (at + sz * (n - 1)) sz l ∷ [])
@@ -100,74 +102,84 @@ ten-bytes at l m h k =
     let lb : length b ≡ 10 = length-part at 10 l k in
     rw (lent-part at 10 l) (ap (put 0 b) (sym (append-nil m)) ∙ put-front m b [] (h ∙ sym lb) ∙ append-nil b)
 
--- ---- the tests of a page on the way
+positive : (p : ℕ) → (p ≡ 0 → ⊥) → 1 ≤ p
+positive p ne = split p 1 (λ h. absurd (ne (omega arith))) (λ h. h)
 
-module _ (key p : ℕ) (pg : List ℕ) (z : Bool) (e : z ≡ formed p pg) where
-  not-formed : not z ≡ true → passable p pg ≡ false
-  unfolding passable
-  not-formed h = both-false _ _ (sym e ∙ not-true z h)
+-- ---- the tests of a page on the way: it is of the one kind that may be passed there
 
-  pub way-broken! : not z ≡ true → Refused 3 ≡ wayOn key p pg
-  unfolding wayOn
-  way-broken! h = sym (need-false _ _ _ (not-formed h))
+module _ (p : ℕ) (pg : List ℕ) where
+  only : (z : Bool) → (z ≡ true → letter pg ≡ 101 → ⊥) → formed p pg ≡ pick (isEmpty pg) true z → z ≡ passable p pg
+  unfolding passable both pick
+  only z ne f =
+      decide (isEmpty pg)
+      (λ t. decide z (λ y. absurd (ne y (shaped-facts empty pg (empty-shaped pg t) .lettered))) (λ y. y ∙ sym (rw (f, t))))
+      (λ t. decide z (λ y. y ∙ sym (rw (f, t, y))) (λ y. y ∙ sym (rw (f, t, y))))
 
-  leaf-shut : passable p pg ≡ false → leafIn key p pg ≡ missing 3
-  unfolding leafIn
-  leaf-shut h = need-false _ _ _ h
+  pub node-base! : (z : Bool) → z ≡ isBase pg → (p ≡ 0 → ⊥) → p < 8 → z ≡ passable p pg
+  node-base! z e ne h =
+      e ∙ only (isBase pg) (λ y l. omega (arith, shaped-facts base pg (base-shaped pg y) .lettered)) (formed-low p pg (positive p ne) (omega arith))
 
-  pub leaf-broken-reply! : (r : ℕ) → not z ≡ true → r ≡ 3 → r ≡ replyOf (leafIn key p pg)
-  unfolding replyOf
-  leaf-broken-reply! r h g = g ∙ rw (leaf-shut (not-formed h))
+  leaf-only : 7 < p → isLeaf pg ≡ passable p pg
+  leaf-only h = only (isLeaf pg) (λ y l. omega (arith, shaped-facts leaf pg (leaf-shaped pg y) .lettered)) (formed-high p pg (omega arith) h)
 
-  pub leaf-broken-bytes! : (v : List ℕ) → not z ≡ true → v ≡ zeroes 10 → v ≡ bytesOf (leafIn key p pg)
-  unfolding bytesOf
-  leaf-broken-bytes! v h g = g ∙ rw (leaf-shut (not-formed h))
+pub node-root! : (p : ℕ) (pg : List ℕ) (z : Bool) → z ≡ isRoot pg → p ≡ 0 → z ≡ passable p pg
+unfolding passable both
+node-root! p pg z e k =
+    decide (isRoot pg)
+    (λ y. e ∙ y ∙ sym (rw (k, formed-0 pg, y, letter-full pg (λ l. omega (arith, shaped-facts root pg (root-shaped pg y) .lettered)))))
+    (λ y. e ∙ y ∙ sym (rw (k, formed-0 pg, y)))
 
-  module _ (h : not z ≡ false) where
-    in-form : formed p pg ≡ true
-    in-form = sym e ∙ not-false z h
+module _ (key p : ℕ) (pg : List ℕ) (z : Bool) where
+  module _ (e : z ≡ passable p pg) where
+    pub way-broken! : not z ≡ true → Refused 3 ≡ wayOn key p pg
+    unfolding wayOn
+    way-broken! h = sym (need-false _ _ _ (sym e ∙ not-true z h))
 
-    pub entries-fit : (n : ℕ) → n ≡ count pg → p < 8 → 16 + 8 * n ≤ length pg
-    entries-fit n f k = omega (arith, entries-ordered p pg in-form (omega arith) .whole, entries-ordered p pg in-form (omega arith) .room)
+    module _ (h : not z ≡ false) (n : ℕ) (k : n ≡ count pg) where
+      open-to : passable p pg ≡ true
+      open-to = sym e ∙ not-false z h
 
-    pub records-fit : (n : ℕ) → n ≡ count pg → 7 < p → 16 + 16 * n ≤ length pg
-    records-fit n f k = omega (arith, records-ordered p pg in-form k .whole, records-ordered p pg in-form k .room)
-
-    module _ (c : ℕ) (f : c ≡ letter pg) where
-      passable-not : c ≡ 101 → passable p pg ≡ false
+      pub entries-fit : p < 8 → 16 + 8 * n ≤ length pg
       unfolding passable
-      passable-not g = both-true _ _ in-form ∙ rw (letter-empty p pg in-form (sym f ∙ g))
+      entries-fit l =
+          let f : formed p pg ≡ true = both-1 _ _ open-to in
+          omega (arith, entries-ordered p pg f (omega arith) .whole, entries-ordered p pg f (omega arith) .room)
 
-      pub way-empty! : c ≡ 101 → Refused 3 ≡ wayOn key p pg
-      unfolding wayOn
-      way-empty! g = sym (need-false _ _ _ (passable-not g))
+      pub way-through! : (r : Way) → r ≡ lastTo key (rowsOf 8 n (drop 16 pg)) → r ≡ wayOn key p pg
+      unfolding wayOn rows
+      way-through! r t = t ∙ rw k (sym (need-true _ _ _ open-to))
 
-      pub leaf-empty-reply! : (r : ℕ) → c ≡ 101 → r ≡ 3 → r ≡ replyOf (leafIn key p pg)
-      unfolding replyOf
-      leaf-empty-reply! r g k = k ∙ rw (leaf-shut (passable-not g))
+  module _ (e : z ≡ isLeaf pg) where
+    leaf-shut : 7 < p → not z ≡ true → leafIn key p pg ≡ missing 3
+    unfolding leafIn
+    leaf-shut l h = need-false _ _ _ (sym (leaf-only p pg l) ∙ sym e ∙ not-true z h)
 
-      pub leaf-empty-bytes! : (v : List ℕ) → c ≡ 101 → v ≡ zeroes 10 → v ≡ bytesOf (leafIn key p pg)
-      unfolding bytesOf
-      leaf-empty-bytes! v g k = k ∙ rw (leaf-shut (passable-not g))
+    pub leaf-broken-reply! : (r : ℕ) → 7 < p → not z ≡ true → r ≡ 3 → r ≡ replyOf (leafIn key p pg)
+    unfolding replyOf
+    leaf-broken-reply! r l h g = g ∙ rw (leaf-shut l h)
 
-      module _ (g : c ≡ 101 → ⊥) (n : ℕ) (k : n ≡ count pg) where
-        passable-yes : passable p pg ≡ true
-        unfolding passable
-        passable-yes = both-true _ _ in-form ∙ rw (letter-full pg (λ y. g (f ∙ y)))
+    pub leaf-broken-bytes! : (v : List ℕ) → 7 < p → not z ≡ true → v ≡ zeroes 10 → v ≡ bytesOf (leafIn key p pg)
+    unfolding bytesOf
+    leaf-broken-bytes! v l h g = g ∙ rw (leaf-shut l h)
 
-        pub way-through! : (r : Way) → r ≡ lastTo key (rowsOf 8 n (drop 16 pg)) → r ≡ wayOn key p pg
-        unfolding wayOn rows
-        way-through! r t = t ∙ rw k (sym (need-true _ _ _ passable-yes))
+    module _ (h : not z ≡ false) (n : ℕ) (k : n ≡ count pg) (l : 7 < p) where
+      is-leaf : isLeaf pg ≡ true
+      is-leaf = sym e ∙ not-false z h
 
-        leaf-through : leafIn key p pg ≡ recordIn key (rowsOf 16 n (drop 16 pg))
-        unfolding leafIn rows
-        leaf-through = need-true _ _ _ passable-yes ∙ rw k
+      pub records-fit : 16 + 16 * n ≤ length pg
+      records-fit =
+          let f : formed p pg ≡ true = leaf-formed p pg l is-leaf in
+          omega (arith, records-ordered p pg f l .whole, records-ordered p pg f l .room)
 
-        pub leaf-reply! : (r : ℕ) → r ≡ replyOf (recordIn key (rowsOf 16 n (drop 16 pg))) → r ≡ replyOf (leafIn key p pg)
-        leaf-reply! r t = t ∙ ap replyOf (sym leaf-through)
+      leaf-through : leafIn key p pg ≡ recordIn key (rowsOf 16 n (drop 16 pg))
+      unfolding leafIn rows
+      leaf-through = need-true _ _ _ (sym (leaf-only p pg l) ∙ is-leaf) ∙ rw k
 
-        pub leaf-bytes! : (v : List ℕ) → v ≡ bytesOf (recordIn key (rowsOf 16 n (drop 16 pg))) → v ≡ bytesOf (leafIn key p pg)
-        leaf-bytes! v t = t ∙ ap bytesOf (sym leaf-through)
+      pub leaf-reply! : (r : ℕ) → r ≡ replyOf (recordIn key (rowsOf 16 n (drop 16 pg))) → r ≡ replyOf (leafIn key p pg)
+      leaf-reply! r t = t ∙ ap replyOf (sym leaf-through)
+
+      pub leaf-bytes! : (v : List ℕ) → v ≡ bytesOf (recordIn key (rowsOf 16 n (drop 16 pg))) → v ≡ bytesOf (leafIn key p pg)
+      leaf-bytes! v t = t ∙ ap bytesOf (sym leaf-through)
 
 -- ---- where the way leads
 

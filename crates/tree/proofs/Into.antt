@@ -1,5 +1,5 @@
 -- List over all leaf pages: the records of a page, then those behind it. Assumes nothing.
-use Prim.Native.Nat.{ℕ, zero, suc, _+_, _-_, _*_, _≤_}
+use Prim.Native.Nat.{ℕ, zero, suc, _+_, _-_, _*_, _≤_, _<_}
 use native.Mathlib.Omega.{arith}
 use mathlib.Core.Path.{_≡_, refl, ap, _∙_}
 use mathlib.Core.Bool.{Bool, true, false}
@@ -12,7 +12,7 @@ use Rattle.page.proofs.Pages.{getD-pages, lent-page, length-page}
 use Rattle.field.specs.Test.{pick}
 use Rattle.tree.specs.Tree.{under, below, allRecords}
 use Rattle.tree.specs.Answer.{between, inBounds, written, countWritten, moreRemain}
-use Rattle.tree.specs.Walk.{Spot, Below}
+use Rattle.tree.specs.Walk.{Ascending, Spot, Below}
 use Rattle.tree.specs.Reader.{Sound, fromRoot, behind, toCome, On}
 use Rattle.tree.specs.declared.walk.Place.{Place}
 use Rattle.tree.proofs.Onward.{come-on, come-end, sound-over, each-under, few-records}
@@ -41,9 +41,11 @@ module _ (w : List ℕ) (whole : length w ≡ 16384) where
       each-append (long-below (drop (at .entry) (rows 8 (page (at .base) w))) (each-drop (at .entry) (rows 8 (page (at .base) w)) (on .over .leaves)))
       (long-below (below 8 (pages w) (drop (at .root) (rows 8 (page 0 w)))) (each-under w (drop (at .root) (rows 8 (page 0 w))) (each-drop (at .root) (rows 8 (page 0 w)) (sound-over w s))))
 
--- the records fit the page that is lent
-pub spot-room : (w : List ℕ) (q m : ℕ) → length w ≡ 16384 → Spot 16 w q → m ≡ count (page q w) → 16 + 16 * m ≤ length (take (256 * q + 256 - 256 * q) (drop (256 * q) w))
-spot-room w q m whole s e = rw (lent-page q w, length-page q w whole (s .inside)) (omega (arith, s .fits))
+-- the page that is lent: its records fit it, there is one, and they ascend
+pub spot-page : (w : List ℕ) (q m : ℕ) → length w ≡ 16384 → Spot 16 w q → m ≡ count (page q w)
+    → let pg = take (256 * q + 256 - 256 * q) (drop (256 * q) w) in (length pg ≡ 256) × (m ≡ count pg) × (16 + 16 * m ≤ 256) × (0 < m) × Ascending (rows 16 pg)
+spot-page w q m whole s e =
+    rw (lent-page q w) (length-page q w whole (s .inside), e, omega (arith, s .fits), omega (arith, s .full), s .order)
 
 -- ---- a leaf page, then those behind
 

@@ -3,21 +3,22 @@ use Prim.Native.Nat.{ℕ, zero, suc, _+_, _-_, _*_, _/_, _≤_, _<_}
 use native.Mathlib.Nat.{sub-zero, zero-add, add-zero}
 use native.Mathlib.Omega.{arith}
 use mathlib.Core.Path.{_≡_, refl, sym, ap, ap₂, _∙_}
-use mathlib.Core.Bool.{Bool, true, false}
+use mathlib.Core.Bool.{Bool, true, false, not}
 use mathlib.Core.List.{List, [], _∷_, _++_, append-nil}
 use lib.ListN.{length, take, drop, length-append, length-take, length-drop, take-append-drop}
 use lib.Seq.{take-append-le, take-append-add, take-all}
 use lib.Dec.{leb, ltb}
-use borrow.Author.Tests.{lt-ltb, le-ltb, le-leb, lt-leb, ltb-true, ltb-false}
+use borrow.Author.Tests.{lt-ltb, le-ltb, le-leb, lt-leb, ltb-true, ltb-false, leb-true, not-false}
 use Rattle.field.specs.Test.{both, pick}
 use Rattle.field.specs.Bytes.{part, put, le4}
-use Rattle.field.proofs.Test.{pick-either}
+use Rattle.field.proofs.Test.{both-1, both-2, both-true, both-false, pick-either}
 use Rattle.field.proofs.Part.{split, length-part, length-put, put-next, lent-part}
-use Rattle.page.specs.Page.{rowsOf, joined, keyOf}
-use Rattle.page.proofs.Rows.{Each, nil, cons, Long, length-joined, joined-append, long-rowsOf}
+use Rattle.page.specs.Page.{rowsOf, joined, keyOf, count, rows}
+use Rattle.page.proofs.Rows.{Each, nil, cons, Long, length-joined, length-rowsOf, joined-rowsOf, joined-append, long-rowsOf}
 use Rattle.page.proofs.Turns.{rows-next}
 use Rattle.tree.specs.Answer.{between, roomFor, written, countWritten, moreRemain}
 use Rattle.tree.specs.Reader.{writeAt, countAt, moreAt}
+use Rattle.tree.specs.Walk.{keysWithin}
 use Rattle.tree.proofs.Turn.{none-left}
 
 -- ---- records in bounds
@@ -221,6 +222,66 @@ module _ (rc : List ℕ) (low high : ℕ) (out : List ℕ) (n key : ℕ) (e : ke
             sym (count-def n (rc ∷ []) out ∙ rw t),
             sym (more-def n (rc ∷ []) out ∙ le-ltb (roomFor out - n) 1 k),
           )
+
+-- ---- the records of a page whose keys are all in bounds, in one run
+
+pub all-between : (low high : ℕ) (rs : List (List ℕ)) → keysWithin low (high + 1) rs ≡ true → between low high rs ≡ rs
+unfolding keysWithin between
+all-between low high [] t = refl
+all-between low high (r ∷ rs) t =
+    let a : leb low (keyOf r) ≡ true = both-1 _ _ t in
+    let u : both (ltb (keyOf r) (high + 1)) (keysWithin low (high + 1) rs) ≡ true = both-2 _ _ t in
+    let b : leb (keyOf r) high ≡ true = le-leb (keyOf r) high (omega (arith, ltb-true (keyOf r) (high + 1) (both-1 _ _ u))) in
+    rw (a, b, all-between low high rs (both-2 _ _ u)) (unfold both pick in refl)
+
+room-def : (out : List ℕ) → roomFor out ≡ length out / 16
+unfolding roomFor
+room-def out = refl
+
+rows-def : (pg : List ℕ) → rows 16 pg ≡ rowsOf 16 (count pg) (drop 16 pg)
+unfolding rows
+rows-def pg = refl
+
+pub whole-less! : (m room : ℕ) (x : Bool) → room < m → false ≡ both (leb m room) x
+whole-less! m room x h = sym (both-false _ _ (lt-leb m room h))
+
+pub whole-rest! : (m room : ℕ) (x z : Bool) → z ≡ x → m ≤ room → z ≡ both (leb m room) x
+whole-rest! m room x z e h = e ∙ sym (both-true _ _ (le-leb m room h))
+
+module _ (pg out : List ℕ) (m low high n : ℕ) (z : Bool) (f : m ≡ count pg)
+    (e : z ≡ both (leb m (length out / 16 - n)) (keysWithin low (high + 1) (rows 16 pg))) (h : not z ≡ false) (p : n ≤ roomFor out) where
+  told : both (leb m (length out / 16 - n)) (keysWithin low (high + 1) (rows 16 pg)) ≡ true
+  told = sym e ∙ not-false z h
+
+  fits : m ≤ length out / 16 - n
+  fits = leb-true m (length out / 16 - n) (both-1 _ _ told)
+
+  pub run-room! : 16 * n + length (take (16 + 16 * m - 16) (drop 16 pg)) ≤ length out
+  run-room! = omega (arith, fits, room-def out, length-take (16 + 16 * m - 16) (drop 16 pg))
+
+  run-ran : Ran n (between low high (rowsOf 16 m (drop 16 pg))) out (put (16 * n) (take (16 + 16 * m - 16) (drop 16 pg)) out) (n + m) false
+  run-ran =
+      let rs : List (List ℕ) = rowsOf 16 m (drop 16 pg) in
+      let w : keysWithin low (high + 1) rs ≡ true = rw (f, ← rows-def pg) (both-2 _ _ told) in
+      let l : length rs ≡ m = length-rowsOf 16 m (drop 16 pg) in
+      let few : length rs ≤ roomFor out - n = rw (l, room-def out) fits in
+      let t : take (roomFor out - n) rs ≡ rs = take-all (roomFor out - n) rs few in
+      let i : 16 * m ≡ 16 + 16 * m - 16 = omega arith in
+      let j : joined rs ≡ take (16 + 16 * m - 16) (drop 16 pg) = joined-rowsOf 16 m (drop 16 pg) ∙ ap (λ (k : ℕ). take k (drop 16 pg)) i in
+      rw (all-between low high rs w) (
+        sym (write-def n rs out ∙ rw (t, j)),
+        sym (count-def n rs out ∙ rw (t, l)),
+        sym (more-def n rs out ∙ le-ltb (roomFor out - n) (length rs) few),
+      )
+
+  pub page-bytes! : (out′ : List ℕ) → out′ ≡ put (16 * n) (take (16 + 16 * m - 16) (drop 16 pg)) out → out′ ≡ writeAt n (between low high (rowsOf 16 m (drop 16 pg))) out
+  page-bytes! out′ g = g ∙ run-ran .0
+
+  pub page-count! : n + m ≡ countAt n (between low high (rowsOf 16 m (drop 16 pg))) out
+  page-count! = run-ran .1
+
+  pub page-more! : false ≡ moreAt n (between low high (rowsOf 16 m (drop 16 pg))) out
+  page-more! = run-ran .2
 
 -- ---- the definitions by these runs
 

@@ -7,7 +7,7 @@ ghost use Rattle.field.specs.Bytes.{part, zeroes};
 ghost use Rattle.page.specs.Page.{rowsOf};
 ghost use Rattle.page.specs.Pages.{page};
 ghost use Rattle.tree.specs.Answer.{lookUp, inLeaf};
-ghost use Rattle.tree.specs.Way.{lastTo, wayDown, wayOn, recordIn, leafIn, replyOf, bytesOf};
+ghost use Rattle.tree.specs.Way.{lastTo, passable, wayDown, wayOn, recordIn, leafIn, replyOf, bytesOf};
 use page::form;
 use page::view;
 
@@ -40,15 +40,23 @@ fn last_not_above(pg: &[u8], n: u16, key: u32) -> Way
     Way::Refused(15)
 }
 
+// Whether a page may be passed as page p, root or base.
+fn node_ok(p: usize, pg: &[u8]) -> bool
+    requires { ⌜ p < 8 ⌝ }
+    ensures { λ r. ⌜ r ≡ passable p (now (pg .entry)) ⌝ }
+{
+    if p == 0 {
+        return form::is_root(pg);
+    }
+    form::is_base(pg)
+}
+
 // The page below the page pg, a root or base page as page p.
 fn way_on(p: usize, pg: &[u8], key: u32) -> Way
     requires { ⌜ (length (now pg) ≡ 256) × (p < 8) ⌝ }
     ensures { λ r. ⌜ r ≡ wayOn key p (now (pg .entry)) ⌝ }
 {
-    if !form::formed(p, pg) {
-        return Way::Refused(3);
-    }
-    if view::letter(pg) == b'e' {
+    if !node_ok(p, pg) {
         return Way::Refused(3);
     }
     last_not_above(pg, view::count(pg), key)
@@ -109,10 +117,7 @@ fn leaf_on(p: usize, pg: &[u8], key: u32) -> Found
     requires { ⌜ (length (now pg) ≡ 256) × (7 < p) ⌝ }
     ensures { λ r. ⌜ (r .reply ≡ replyOf (leafIn key p (now (pg .entry)))) × (r .value ≡ bytesOf (leafIn key p (now (pg .entry)))) ⌝ }
 {
-    if !form::formed(p, pg) {
-        return missing(3);
-    }
-    if view::letter(pg) == b'e' {
+    if !form::is_leaf(pg) {
         return missing(3);
     }
     record_with(pg, view::count(pg), key)

@@ -3,11 +3,13 @@ ghost use mathlib.Core.Path.{_≡_};
 ghost use mathlib.Core.List.{[], _∷_};
 ghost use Prim.Native.Nat.{_+_, _*_, _/_, _≤_, _<_};
 ghost use lib.ListN.{length, drop};
-ghost use Rattle.field.specs.Test.{pick};
+ghost use lib.Dec.{leb};
+ghost use Rattle.field.specs.Test.{both, pick};
 ghost use Rattle.field.specs.Bytes.{put};
-ghost use Rattle.page.specs.Page.{rowsOf};
+ghost use Rattle.page.specs.Page.{rowsOf, count, rows};
 ghost use Rattle.tree.specs.Answer.{between, inBounds, roomFor, written, countWritten, moreRemain};
 ghost use Rattle.tree.specs.Reader.{Sound, writeAt, countAt, moreAt};
+ghost use Rattle.tree.specs.Walk.{Ascending, keysWithin};
 use crate::walk;
 use crate::well;
 
@@ -87,6 +89,34 @@ fn list_leaf(pg: &[u8], m: u16, low: u32, high: u32, out: &mut [u8], n: usize) -
     }
 }
 
+// Whether all m records of the page pg, whose keys ascend, are in bounds and fit into this room.
+fn whole(pg: &[u8], m: u16, low: u32, high: u32, room: usize) -> bool
+    requires { ⌜ (length (now pg) ≡ 256) × (m ≡ count (now pg)) × (16 + 16 * m ≤ 256) × (0 < m) × Ascending (rows 16 (now pg)) ⌝ }
+    ensures { λ r. ⌜ r ≡ both (leb m room) (keysWithin low (high + 1) (rows 16 (now (pg .entry)))) ⌝ }
+{
+    if room < m as usize {
+        return false;
+    }
+    well::within(pg, 16, low, high as u64 + 1)
+}
+
+// The same as list_leaf, for a page whose keys ascend: all its records in one run where they are in bounds and fit.
+fn list_page(pg: &[u8], m: u16, low: u32, high: u32, out: &mut [u8], n: usize) -> Run
+    requires { ⌜ (length (now pg) ≡ 256) × (m ≡ count (now pg)) × (16 + 16 * m ≤ 256) × (0 < m) × Ascending (rows 16 (now pg)) ⌝ }
+    requires { ⌜ n ≤ roomFor (now out) ⌝ }
+    ensures { λ r. ⌜ (now (out .exit) ≡ writeAt n (between low high (rowsOf 16 m (drop 16 (now (pg .entry))))) (now (out .entry))) × (r .count ≡ countAt n (between low high (rowsOf 16 m (drop 16 (now (pg .entry))))) (now (out .entry))) × (r .more ≡ moreAt n (between low high (rowsOf 16 m (drop 16 (now (pg .entry))))) (now (out .entry))) ⌝ }
+{
+    if !whole(pg, m, low, high, out.len() / 16 - n) {
+        return list_leaf(pg, m, low, high, out, n);
+    }
+    let k = m as usize;
+    field::copy(out, 16 * n, &pg[16..16 + 16 * k]);
+    Run {
+        count: n + k,
+        more: false,
+    }
+}
+
 // Writes the records with keys low to high, both included, into out.
 pub fn list_into(w: &[u8], low: u32, high: u32, out: &mut [u8]) -> Listed
     requires { ⌜ Sound (now w) ⌝ }
@@ -96,7 +126,7 @@ pub fn list_into(w: &[u8], low: u32, high: u32, out: &mut [u8]) -> Listed
     let mut at = walk::first(w);
     while at.leaf != 0 {
         let p = 256 * at.leaf;
-        let run = list_leaf(
+        let run = list_page(
             &w[p..p + 256],
             well::count_at(w, at.leaf),
             low,

@@ -46,7 +46,7 @@ fn bound_at(pg: &[u8], at: usize, left: u16, hi: u64) -> u64
 }
 
 // Whether all keys of a page with rows of sz bytes are at least lo and less than hi.
-fn within(pg: &[u8], sz: usize, lo: u32, hi: u64) -> bool
+pub fn within(pg: &[u8], sz: usize, lo: u32, hi: u64) -> bool
     requires { ⌜ (length (now pg) ≡ 256) × (6 ≤ sz) × (16 + sz * count (now pg) ≤ 256) × (0 < count (now pg)) ⌝ }
     requires { ⌜ Ascending (rows sz (now pg)) ⌝ }
     ensures { λ r. ⌜ r ≡ keysWithin lo hi (rows sz (now (pg .entry))) ⌝ }

@@ -1,72 +1,46 @@
--- `page::form::all_formed` meets its contract. The invariant: all pages are in form where those from page p on are. Assumes nothing.
-use Prim.Native.Nat.{_≤_, _-_, _*_}
-use mathlib.Core.Path.{_≡_}
-use native.Mathlib.Omega.{arith}
+-- `page::form::all_formed` meets its contract: the root, the base pages' places, the leaf pages' places. Assumes nothing.
+use Rattle.page.proofs.Tests.{all-root!, all-bases!, all-leaves! }
 use borrow.Author.Needs.{needs}
-use lib.ListN.{drop}
-use Rattle.page.specs.Page.{rowsOf}
-use Rattle.page.specs.Pages.{pages, allFormed}
-use Rattle.page.proofs.Tests.{formed-start, formed-stop!, formed-more!, formed-end! }
 use Rattle.page.proofs.form.all_formed.Statement.{statement}
 use Rattle.page.proofs.form.all_formed.Tie as tie
 
-abbrev Inv-loop : tie.InvT-loop
-Inv-loop w p₀ p = (p ≤ 64) × (allFormed 0 (pages w) ≡ allFormed p (rowsOf 256 (64 - p) (drop (256 * p) w)))
+sub-is-root : tie.Need-sub-is-root
+sub-is-root c = search needs
 
-abbrev μ-loop : tie.MeasureT-loop
-μ-loop w p₀ p = 64 - p
+part-is-root-start : tie.Need-part-is-root-start
+part-is-root-start c = search needs
 
-loop-holds : tie.Need-loop-holds Inv-loop μ-loop
-loop-holds c = (omega arith, formed-start (c .before .args .w .now))
+part-is-root-end : tie.Need-part-is-root-end
+part-is-root-end c = search needs
 
-mul-at : tie.Need-mul-at Inv-loop μ-loop
-mul-at c = omega arith
+is-root-requires : tie.Need-is-root-requires
+is-root-requires c κs = search needs
 
-add-formed : tie.Need-add-formed Inv-loop μ-loop
-add-formed c = omega arith
+returns : tie.Need-returns
+returns c = search all-root!
 
-sub-formed : tie.Need-sub-formed Inv-loop μ-loop
-sub-formed c = omega arith
+bases-formed-requires : tie.Need-bases-formed-requires
+bases-formed-requires c κs = search needs
 
-part-formed-start : tie.Need-part-formed-start Inv-loop μ-loop
-part-formed-start c = omega arith
+returns-2 : tie.Need-returns-2
+returns-2 c = search all-bases!
 
-part-formed-end : tie.Need-part-formed-end Inv-loop μ-loop
-part-formed-end c = omega arith
+leaves-formed-requires : tie.Need-leaves-formed-requires
+leaves-formed-requires c κs = search needs
 
-formed-requires : tie.Need-formed-requires Inv-loop μ-loop
-formed-requires c κs = search needs
-
-returns : tie.Need-returns Inv-loop μ-loop
-returns c = search formed-stop!
-
-add-p : tie.Need-add-p Inv-loop μ-loop
-add-p c = omega arith
-
-loop-less : tie.Need-loop-less Inv-loop μ-loop
-loop-less c = omega arith
-
-loop-again : tie.Need-loop-again Inv-loop μ-loop
-loop-again c = (omega arith, search formed-more!)
-
-returns-2 : tie.Need-returns-2 Inv-loop μ-loop
-returns-2 c = search formed-end!
+returns-3 : tie.Need-returns-3
+returns-3 c = search all-leaves!
 
 pub all-formed-spec : {M : Type 1} → statement M
 all-formed-spec =
     tie.close
     (tie.spec
-    Inv-loop
-    μ-loop
-    loop-holds
-    mul-at
-    add-formed
-    sub-formed
-    part-formed-start
-    part-formed-end
-    formed-requires
+    sub-is-root
+    part-is-root-start
+    part-is-root-end
+    is-root-requires
     returns
-    add-p
-    loop-less
-    loop-again
-    returns-2)
+    bases-formed-requires
+    returns-2
+    leaves-formed-requires
+    returns-3)

@@ -6,7 +6,7 @@ use Rattle.tree.specs.Answer.{between, inBounds}
 use Rattle.tree.specs.Reader.{toCome, On, Stands}
 use Rattle.tree.proofs.Onward.{behind-less}
 use Rattle.tree.proofs.Listing.{Same, same-start}
-use Rattle.tree.proofs.Into.{spot-room, into-more, into-stop, into-length, into-end, ran-answer, same-small, ran-small}
+use Rattle.tree.proofs.Into.{spot-page, into-more, into-stop, into-length, into-end, ran-answer, same-small, ran-small}
 use native.Mathlib.Omega.{arith}
 use Rattle.tree.proofs.list.list_into.Statement.{statement}
 use Rattle.tree.proofs.list.list_into.Tie as tie
@@ -34,17 +34,17 @@ loop-holds c =
 mul-p : tie.Need-mul-p Inv-loop μ-loop
 mul-p c = omega (arith, on (c .before) .spot .inside)
 
-add-list-leaf : tie.Need-add-list-leaf Inv-loop μ-loop
-add-list-leaf c = omega (arith, on (c .before) .spot .inside)
+add-list-page : tie.Need-add-list-page Inv-loop μ-loop
+add-list-page c = omega (arith, on (c .before) .spot .inside)
 
-sub-list-leaf : tie.Need-sub-list-leaf Inv-loop μ-loop
-sub-list-leaf c = omega (arith, on (c .before) .spot .inside)
+sub-list-page : tie.Need-sub-list-page Inv-loop μ-loop
+sub-list-page c = omega (arith, on (c .before) .spot .inside)
 
-part-list-leaf-start : tie.Need-part-list-leaf-start Inv-loop μ-loop
-part-list-leaf-start c = omega (arith, on (c .before) .spot .inside)
+part-list-page-start : tie.Need-part-list-page-start Inv-loop μ-loop
+part-list-page-start c = omega (arith, on (c .before) .spot .inside)
 
-part-list-leaf-end : tie.Need-part-list-leaf-end Inv-loop μ-loop
-part-list-leaf-end c =
+part-list-page-end : tie.Need-part-list-page-end Inv-loop μ-loop
+part-list-page-end c =
     let l = c .before .before .before in
     let a = l .before .before .before .before in
     let w = a .args .w .now in
@@ -61,14 +61,14 @@ count-at-requires c κs =
     let h = on (c .before .before) in
     (a .pre .form .whole, h .spot .inside)
 
-list-leaf-requires : tie.Need-list-leaf-requires Inv-loop μ-loop
-list-leaf-requires c κs =
+list-page-requires : tie.Need-list-page-requires Inv-loop μ-loop
+list-page-requires c κs =
     let l = c .before .before .before .before .before .before in
     let a = l .before .before .before .before in
     let w = a .args .w .now in
     let at = l .loop .at in
     let h = on (c .before .before .before .before) in
-    (spot-room w (at .leaf) (c .before .count-at .result) (a .pre .form .whole) (h .spot) (c .before .count-at .ensures), l .loop .inv .2 .fits)
+    (spot-page w (at .leaf) (c .before .count-at .result) (a .pre .form .whole) (h .spot) (c .before .count-at .ensures), l .loop .inv .2 .fits)
 
 cast-t19 : tie.Need-cast-t19 Inv-loop μ-loop
 cast-t19 c =
@@ -77,7 +77,7 @@ cast-t19 c =
     let w = a .args .w .now in
     let at = l .loop .at in
     let h = on (c .before .before .before .before .before .before .before .before) in
-    let r = into-stop w (a .pre) _ _ (a .args .low) (a .args .high) at h (l .loop .inv .1) (l .loop .out) (l .loop .k) (l .loop .inv .2) _ (c .before .before .before .before .before .count-at .ensures) _ _ _ (c .before .before .before .list-leaf .ensures) (c .if2 .taken) in
+    let r = into-stop w (a .pre) _ _ (a .args .low) (a .args .high) at h (l .loop .inv .1) (l .loop .out) (l .loop .k) (l .loop .inv .2) _ (c .before .before .before .before .before .count-at .ensures) _ _ _ (c .before .before .before .list-page .ensures) (c .if2 .taken) in
     omega (arith, ran-small (a .args .low) (a .args .high) w _ _ _ _ (a .pre) r)
 
 same-length : tie.Need-same-length Inv-loop μ-loop
@@ -87,7 +87,7 @@ same-length c =
     let w = a .args .w .now in
     let at = l .loop .at in
     let h = on (c .before .before .before .before .before .before .before .before) in
-    into-length w (a .pre) _ _ (a .args .low) (a .args .high) at h (l .loop .inv .1) (l .loop .out) (l .loop .k) (l .loop .inv .2) _ (c .before .before .before .before .before .count-at .ensures) _ _ _ (c .before .before .before .list-leaf .ensures)
+    into-length w (a .pre) _ _ (a .args .low) (a .args .high) at h (l .loop .inv .1) (l .loop .out) (l .loop .k) (l .loop .inv .2) _ (c .before .before .before .before .before .count-at .ensures) _ _ _ (c .before .before .before .list-page .ensures)
 
 returns : tie.Need-returns Inv-loop μ-loop
 returns c =
@@ -96,7 +96,7 @@ returns c =
     let w = a .args .w .now in
     let at = l .loop .at in
     let h = on (c .before .before .before .before .before .before .before .before) in
-    ran-answer _ _ _ _ true (rw (c .if2 .taken) at (into-stop w (a .pre) _ _ (a .args .low) (a .args .high) at h (l .loop .inv .1) (l .loop .out) (l .loop .k) (l .loop .inv .2) _ (c .before .before .before .before .before .count-at .ensures) _ _ _ (c .before .before .before .list-leaf .ensures) (c .if2 .taken)))
+    ran-answer _ _ _ _ true (rw (c .if2 .taken) at (into-stop w (a .pre) _ _ (a .args .low) (a .args .high) at h (l .loop .inv .1) (l .loop .out) (l .loop .k) (l .loop .inv .2) _ (c .before .before .before .before .before .count-at .ensures) _ _ _ (c .before .before .before .list-page .ensures) (c .if2 .taken)))
 
 next-leaf-requires : tie.Need-next-leaf-requires Inv-loop μ-loop
 next-leaf-requires c κs =
@@ -124,7 +124,7 @@ loop-again c =
     let at = l .loop .at in
     let h = on (c .before .before .before .before .before .before .before .before .before) in
     let x = c .next-leaf .ensures in
-    (x .0, x .2, into-more w (a .pre) _ _ (a .args .low) (a .args .high) at h (l .loop .inv .1) (l .loop .out) (l .loop .k) (l .loop .inv .2) _ (c .before .before .before .before .before .before .count-at .ensures) _ _ _ (c .before .before .before .before .list-leaf .ensures) (c .before .if2 .left) (c .next-leaf .result) (x .1))
+    (x .0, x .2, into-more w (a .pre) _ _ (a .args .low) (a .args .high) at h (l .loop .inv .1) (l .loop .out) (l .loop .k) (l .loop .inv .2) _ (c .before .before .before .before .before .before .count-at .ensures) _ _ _ (c .before .before .before .before .list-page .ensures) (c .before .if2 .left) (c .next-leaf .result) (x .1))
 
 cast-t20 : tie.Need-cast-t20 Inv-loop μ-loop
 cast-t20 c =
@@ -154,12 +154,12 @@ list-into-spec =
     first-requires
     loop-holds
     mul-p
-    add-list-leaf
-    sub-list-leaf
-    part-list-leaf-start
-    part-list-leaf-end
+    add-list-page
+    sub-list-page
+    part-list-page-start
+    part-list-page-end
     count-at-requires
-    list-leaf-requires
+    list-page-requires
     cast-t19
     same-length
     returns

@@ -1,7 +1,6 @@
 -- The ways through the tests of a page's form, for `search`: each premise has the form in which the code's record has it.
 -- Assumes nothing.
-use Prim.Native.Nat.{ℕ, zero, suc, _+_, _-_, _*_, _≤_, _<_}
-use native.Mathlib.Nat.{add-zero}
+use Prim.Native.Nat.{ℕ, _+_, _-_, _*_, _≤_, _<_}
 use native.Mathlib.Omega.{arith}
 use mathlib.Core.Path.{_≡_, refl, sym, ap, _∙_}
 use mathlib.Core.Bool.{Bool, true, false, not, false≢true}
@@ -12,9 +11,9 @@ use borrow.Author.Tests.{eqb-true, leb-true, eq-eqb, ne-eqb, le-leb, lt-leb, not
 use borrow.Rule.Slice.PartAt.{part-to-end}
 use Rattle.field.specs.Test.{both, all, pick}
 use Rattle.field.specs.Bytes.{part, allZero}
-use Rattle.field.proofs.Test.{both-end, both-true, both-false, both-assoc, all-head, all-tail, pick-second}
+use Rattle.field.proofs.Test.{both-end, both-true, both-false, all-head, all-tail, pick-second}
 use Rattle.page.specs.Page.{kind, rowsOf, ascend, pointing, letter, count, spare, rows, shaped, isRoot, isBase, isLeaf, isEmpty, formed}
-use Rattle.page.specs.Shape.{headShaped, bodyShaped, orEmpty, formedTo}
+use Rattle.page.specs.Shape.{headShaped, bodyShaped}
 use Rattle.page.specs.Pages.{page, pages, allFormed}
 use Rattle.page.proofs.Turns.{rows-next}
 use Rattle.page.proofs.Pages.{lent-page}
@@ -151,101 +150,64 @@ unfolding pick
 pick-true true = refl
 pick-true false = refl
 
-module _ (k z : Bool) (l : List ℕ) (e : z ≡ k) where
-  pub or-kind! : z ≡ true → true ≡ orEmpty k l
-  unfolding orEmpty
-  or-kind! h = sym (pick-second (isEmpty l) k (sym e ∙ h))
-
-  pub or-empty! : z ≡ false → (x : Bool) → x ≡ isEmpty l → x ≡ orEmpty k l
-  unfolding orEmpty
-  or-empty! h x f = f ∙ rw (← e, h) (pick-true (isEmpty l))
-
 module _ (p : ℕ) (l : List ℕ) (z : Bool) where
   pub formed-root! : p ≡ 0 → z ≡ isRoot l → z ≡ formed p l
   unfolding formed pick
   formed-root! h e = e ∙ rw (eq-eqb p 0 h)
 
-  pub formed-base! : z ≡ orEmpty (isBase l) l → (p ≡ 0 → ⊥) → p ≤ 7 → z ≡ formed p l
-  unfolding formed orEmpty pick
-  formed-base! e ne h = e ∙ rw (ne-eqb p 0 ne, le-leb p 7 h)
+  pub place-base! : p ≤ 7 → z ≡ isBase l → z ≡ pick (leb p 7) (isBase l) (isLeaf l)
+  unfolding pick
+  place-base! h e = e ∙ rw (le-leb p 7 h)
 
-  pub formed-leaf! : z ≡ orEmpty (isLeaf l) l → (p ≡ 0 → ⊥) → 7 < p → z ≡ formed p l
-  unfolding formed orEmpty pick
-  formed-leaf! e ne h = e ∙ rw (ne-eqb p 0 ne, lt-leb p 7 h)
+  pub place-leaf! : 7 < p → z ≡ isLeaf l → z ≡ pick (leb p 7) (isBase l) (isLeaf l)
+  unfolding pick
+  place-leaf! h e = e ∙ rw (lt-leb p 7 h)
 
--- ---- the pages from page p on, those before page to, one after the other
+  module _ (e : z ≡ pick (leb p 7) (isBase l) (isLeaf l)) (low : 1 ≤ p) where
+    below : formed p l ≡ pick (isEmpty l) true z
+    unfolding formed
+    below = rw (ne-eqb p 0 (λ k. omega arith), ← e) (unfold pick in refl)
 
-formed-next : (to p : ℕ) (w : List ℕ) → p < to → formedTo to p w ≡ both (formed p (page p w)) (formedTo to (p + 1) w)
-unfolding formedTo allFormed page
-formed-next to p w h =
-    let n : to - p - 1 ≡ to - (p + 1) = omega arith in
+    pub below-kind! : z ≡ true → true ≡ formed p l
+    below-kind! h = sym (below ∙ pick-second (isEmpty l) z h)
+
+    pub below-empty! : z ≡ false → (x : Bool) → x ≡ isEmpty l → x ≡ formed p l
+    below-empty! h x f = f ∙ pick-true (isEmpty l) ∙ sym (below ∙ rw h)
+
+-- ---- all pages, one after the other: those from page p on
+
+formed-next : (p : ℕ) (w : List ℕ) → p < 64
+    → allFormed p (rowsOf 256 (64 - p) (drop (256 * p) w))
+    ≡ both (formed p (page p w)) (allFormed (p + 1) (rowsOf 256 (64 - (p + 1)) (drop (256 * (p + 1)) w)))
+unfolding allFormed page
+formed-next p w h =
+    let n : 64 - p - 1 ≡ 64 - (p + 1) = omega arith in
     let o : 256 * p + 256 ≡ 256 * (p + 1) = omega arith in
-    rw (rows-next 256 (to - p) (256 * p) w (omega arith), n, o)
+    rw (rows-next 256 (64 - p) (256 * p) w (omega arith), n, o)
 
-formed-none : (to p : ℕ) (w : List ℕ) → to ≤ p → formedTo to p w ≡ true
-unfolding formedTo allFormed rowsOf
-formed-none to p w h = let n : to - p ≡ 0 = omega arith in rw n
+module _ (p : ℕ) (w : List ℕ) (e : allFormed 0 (pages w) ≡ allFormed p (rowsOf 256 (64 - p) (drop (256 * p) w))) where
+  pub formed-end! : p ≤ 64 → 64 ≤ p → true ≡ allFormed 0 (pages w)
+  unfolding allFormed rowsOf
+  formed-end! h k = let q : p ≡ 64 = omega arith in sym (e ∙ rw q)
 
-module _ (to first p : ℕ) (w : List ℕ) (e : formedTo to first w ≡ formedTo to p w) where
-  pub formed-end! : to ≤ p → true ≡ formedTo to first w
-  formed-end! h = sym (e ∙ formed-none to p w h)
+  module _ (z : Bool) (f : z ≡ formed p (take (256 * p + 256 - 256 * p) (drop (256 * p) w))) (h : p < 64) where
+    lent : formed p (page p w) ≡ z
+    lent = sym (f ∙ ap (formed p) (lent-page p w))
 
-  module _ (z : Bool) (h : p < to) where
-    stop : z ≡ formed p (page p w) → not z ≡ true → false ≡ formedTo to first w
-    stop f g = sym (e ∙ formed-next to p w h ∙ both-false _ _ (sym f ∙ not-true z g))
+    pub formed-stop! : not z ≡ true → false ≡ allFormed 0 (pages w)
+    formed-stop! g = sym (e ∙ formed-next p w h ∙ both-false _ _ (lent ∙ not-true z g))
 
-    more : z ≡ formed p (page p w) → not z ≡ false → formedTo to first w ≡ formedTo to (p + 1) w
-    more f g = e ∙ formed-next to p w h ∙ both-true _ _ (sym f ∙ not-false z g)
+    pub formed-more! : not z ≡ false → allFormed 0 (pages w) ≡ allFormed (p + 1) (rowsOf 256 (64 - (p + 1)) (drop (256 * (p + 1)) w))
+    formed-more! g = e ∙ formed-next p w h ∙ both-true _ _ (lent ∙ not-false z g)
 
-    module _ (low : 1 ≤ p) (small : p < 8) (f : z ≡ orEmpty (isBase (take (256 * p + 256 - 256 * p) (drop (256 * p) w))) (take (256 * p + 256 - 256 * p) (drop (256 * p) w))) where
-      base-here : z ≡ formed p (page p w)
-      base-here = formed-base! p (page p w) z (rw lent-page at f) (λ k. omega arith) (omega arith)
+-- the root first
+module _ (w : List ℕ) (z : Bool) (e : z ≡ isRoot (take 256 w)) where
+  front : allFormed 0 (pages w) ≡ both z (allFormed 1 (rowsOf 256 (64 - 1) (drop (256 * 1) w)))
+  unfolding pages page part
+  front = formed-next 0 w (omega arith) ∙ rw (← formed-root! 0 (page 0 w) z refl e)
 
-      pub base-stop! : not z ≡ true → false ≡ formedTo to first w
-      base-stop! g = stop base-here g
+  pub front-stop! : not z ≡ true → false ≡ allFormed 0 (pages w)
+  front-stop! h = sym (front ∙ both-false _ _ (not-true z h))
 
-      pub base-more! : not z ≡ false → formedTo to first w ≡ formedTo to (p + 1) w
-      base-more! g = more base-here g
-
-    module _ (high : 8 ≤ p) (f : z ≡ orEmpty (isLeaf (take (256 * p + 256 - 256 * p) (drop (256 * p) w))) (take (256 * p + 256 - 256 * p) (drop (256 * p) w))) where
-      leaf-here : z ≡ formed p (page p w)
-      leaf-here = formed-leaf! p (page p w) z (rw lent-page at f) (λ k. omega arith) high
-
-      pub leaf-stop! : not z ≡ true → false ≡ formedTo to first w
-      leaf-stop! g = stop leaf-here g
-
-      pub leaf-more! : not z ≡ false → formedTo to first w ≡ formedTo to (p + 1) w
-      leaf-more! g = more leaf-here g
-
--- ---- all pages: the root, the base pages, the leaf pages
-
-formed-part : (n to p : ℕ) (w : List ℕ) → p + n ≤ to → formedTo to p w ≡ both (formedTo (p + n) p w) (formedTo to (p + n) w)
-formed-part zero to p w h = rw (add-zero p) (sym (both-true _ _ (formed-none p p w (omega arith))))
-formed-part (suc n) to p w h =
-    let o : p + suc n ≡ p + 1 + n = omega arith in
-    rw (o, formed-next to p w (omega arith), formed-next (p + 1 + n) p w (omega arith), formed-part n to (p + 1) w (omega arith))
-    (sym (both-assoc (formed p (page p w)) (formedTo (p + 1 + n) (p + 1) w) (formedTo to (p + 1 + n) w)))
-
-all-pages : (w : List ℕ) → allFormed 0 (pages w) ≡ formedTo 64 0 w
-unfolding formedTo pages
-all-pages w = refl
-
-module _ (w : List ℕ) (x : Bool) (e : x ≡ isRoot (take 256 w)) where
-  parts : allFormed 0 (pages w) ≡ both x (both (formedTo 8 1 w) (formedTo 64 8 w))
-  unfolding page part
-  parts =
-      all-pages w ∙ formed-next 64 0 w (omega arith)
-      ∙ rw (← formed-root! 0 (page 0 w) x refl e, formed-part 7 64 1 w (omega arith))
-
-  pub all-root! : not x ≡ true → false ≡ allFormed 0 (pages w)
-  all-root! h = sym (parts ∙ both-false _ _ (not-true x h))
-
-  module _ (y : Bool) (f : y ≡ formedTo 8 1 w) (h : not x ≡ false) where
-    rest : allFormed 0 (pages w) ≡ both y (formedTo 64 8 w)
-    rest = parts ∙ both-true _ _ (not-false x h) ∙ rw (← f)
-
-    pub all-bases! : not y ≡ true → false ≡ allFormed 0 (pages w)
-    all-bases! k = sym (rest ∙ both-false _ _ (not-true y k))
-
-    pub all-leaves! : not y ≡ false → (z : Bool) → z ≡ formedTo 64 8 w → z ≡ allFormed 0 (pages w)
-    all-leaves! k z g = g ∙ sym (rest ∙ both-true _ _ (not-false y k))
+  pub front-more : not z ≡ false → allFormed 0 (pages w) ≡ allFormed 1 (rowsOf 256 (64 - 1) (drop (256 * 1) w))
+  front-more h = front ∙ both-true _ _ (not-false z h)

@@ -2,9 +2,10 @@
 ghost use mathlib.Core.Path.{_≡_};
 ghost use Prim.Native.Nat.{_+_, _*_, _≤_, _<_};
 ghost use lib.ListN.{length, drop};
-ghost use Rattle.field.specs.Test.{both};
+ghost use lib.Dec.{leb};
+ghost use Rattle.field.specs.Test.{both, pick};
 ghost use Rattle.page.specs.Page.{rowsOf, count, entries, ascend, pointing, isRoot, isBase, isLeaf, isEmpty, formed};
-ghost use Rattle.page.specs.Shape.{headShaped, bodyShaped, orEmpty, formedTo};
+ghost use Rattle.page.specs.Shape.{headShaped, bodyShaped};
 ghost use Rattle.page.specs.Pages.{pages, allFormed};
 use crate::view;
 
@@ -160,73 +161,39 @@ pub fn is_empty(pg: &[u8]) -> bool
     records_ok(pg)
 }
 
-// Whether a page may stand in a base page's place: it is one, or it is empty.
-fn base_or_empty(pg: &[u8]) -> bool
-    ensures { λ r. ⌜ r ≡ orEmpty (isBase (now (pg .entry))) (now (pg .entry)) ⌝ }
+// Whether a page is of the kind that belongs in place p, which is not the root's: 1 to 7 are base pages, 8 to 63 leaf pages.
+fn of_place(p: usize, pg: &[u8]) -> bool
+    ensures { λ r. ⌜ r ≡ pick (leb p 7) (isBase (now (pg .entry))) (isLeaf (now (pg .entry))) ⌝ }
 {
-    if is_base(pg) {
+    if p <= 7 {
+        return is_base(pg);
+    }
+    is_leaf(pg)
+}
+
+// Whether a page is in form as page p, which is not the root: of the kind that belongs there, or empty.
+fn below_root(p: usize, pg: &[u8]) -> bool
+    requires { ⌜ 1 ≤ p ⌝ }
+    ensures { λ r. ⌜ r ≡ formed p (now (pg .entry)) ⌝ }
+{
+    if of_place(p, pg) {
         return true;
     }
     is_empty(pg)
 }
 
-// Whether a page may stand in a leaf page's place: it is one, or it is empty.
-fn leaf_or_empty(pg: &[u8]) -> bool
-    ensures { λ r. ⌜ r ≡ orEmpty (isLeaf (now (pg .entry))) (now (pg .entry)) ⌝ }
-{
-    if is_leaf(pg) {
-        return true;
-    }
-    is_empty(pg)
-}
-
-// Whether a page is in form as page p: page 0 is the root, 1 to 7 are base pages, 8 to 63 leaf pages, and any but the root may be empty.
+// Whether a page is in form as page p: page 0 is the root.
 pub fn formed(p: usize, pg: &[u8]) -> bool
     ensures { λ r. ⌜ r ≡ formed p (now (pg .entry)) ⌝ }
 {
     if p == 0 {
         return is_root(pg);
     }
-    if p <= 7 {
-        return base_or_empty(pg);
-    }
-    leaf_or_empty(pg)
+    below_root(p, pg)
 }
 
-// Whether pages 1 to 7 are in form. This loop and the next have their tests in place, with no page handed on by `formed`: a slice that is
-// handed on right after it was made keeps the processor waiting.
-fn bases_formed(w: &[u8]) -> bool
-    requires { ⌜ length (now w) ≡ 16384 ⌝ }
-    ensures { λ r. ⌜ r ≡ formedTo 8 1 (now (w .entry)) ⌝ }
-{
-    let mut p = 1;
-    while p < 8 {
-        let at = 256 * p;
-        if !base_or_empty(&w[at..at + 256]) {
-            return false;
-        }
-        p += 1;
-    }
-    true
-}
-
-// Whether pages 8 to 63 are in form.
-fn leaves_formed(w: &[u8]) -> bool
-    requires { ⌜ length (now w) ≡ 16384 ⌝ }
-    ensures { λ r. ⌜ r ≡ formedTo 64 8 (now (w .entry)) ⌝ }
-{
-    let mut p = 8;
-    while p < 64 {
-        let at = 256 * p;
-        if !leaf_or_empty(&w[at..at + 256]) {
-            return false;
-        }
-        p += 1;
-    }
-    true
-}
-
-// Whether all 64 pages are in form, each in its place.
+// Whether all 64 pages are in form, each in its place. The root is tested apart, so that what the loop calls is small enough to be compiled
+// in its place: a page that is handed on by a function of its own keeps the processor waiting.
 pub fn all_formed(w: &[u8]) -> bool
     requires { ⌜ length (now w) ≡ 16384 ⌝ }
     ensures { λ r. ⌜ r ≡ allFormed 0 (pages (now (w .entry))) ⌝ }
@@ -234,8 +201,13 @@ pub fn all_formed(w: &[u8]) -> bool
     if !is_root(&w[0..256]) {
         return false;
     }
-    if !bases_formed(w) {
-        return false;
+    let mut p = 1;
+    while p < 64 {
+        let at = 256 * p;
+        if !below_root(p, &w[at..at + 256]) {
+            return false;
+        }
+        p += 1;
     }
-    leaves_formed(w)
+    true
 }

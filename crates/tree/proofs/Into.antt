@@ -13,10 +13,10 @@ use Rattle.field.specs.Test.{pick}
 use Rattle.tree.specs.Tree.{under, below, allRecords}
 use Rattle.tree.specs.Answer.{between, inBounds, written, countWritten, moreRemain}
 use Rattle.tree.specs.Walk.{Ascending, Spot, Below}
-use Rattle.tree.specs.Reader.{Sound, fromRoot, behind, toCome, On}
+use Rattle.tree.specs.Reader.{Sound, fromRoot, behind, toCome, On, Ran}
 use Rattle.tree.specs.declared.walk.Place.{Place}
 use Rattle.tree.proofs.Onward.{come-on, come-end, sound-over, each-under, few-records}
-use Rattle.tree.proofs.Listing.{Same, Ran, between-append, between-few, each-between, same-more, same-stop, same-end, length-write, written-run, count-run-all, more-run, count-small, count-least}
+use Rattle.tree.proofs.Listing.{Same, between-append, between-few, each-between, same-more, same-stop, same-end, length-write, written-run, count-run-all, more-run, count-small, count-least}
 
 -- ---- every record has 16 bytes
 

@@ -17,7 +17,7 @@ use Rattle.page.specs.Page.{rowsOf, joined, keyOf, count, rows}
 use Rattle.page.proofs.Rows.{Each, nil, cons, Long, length-joined, length-rowsOf, joined-rowsOf, joined-append, long-rowsOf}
 use Rattle.page.proofs.Turns.{rows-next}
 use Rattle.tree.specs.Answer.{between, roomFor, written, countWritten, moreRemain}
-use Rattle.tree.specs.Reader.{writeAt, countAt, moreAt}
+use Rattle.tree.specs.Reader.{writeAt, countAt, moreAt, Ran}
 use Rattle.tree.specs.Walk.{keysWithin}
 use Rattle.tree.proofs.Turn.{none-left}
 
@@ -141,10 +141,6 @@ module _ (xs : List (List ℕ)) (out : List ℕ) (k : ℕ) (long : Each (Long 16
           (split (roomFor out - k) (length xs + length ys)
           (λ a. lt-ltb (roomFor out - k) (length xs + length ys) a ∙ sym (lt-ltb n (length ys) (omega arith)))
           (λ a. le-ltb (roomFor out - k) (length xs + length ys) a ∙ sym (le-ltb n (length ys) (omega arith))))
-
--- what a call that wrote the records rs behind n others leaves
-abbrev pub Ran : (n : ℕ) (rs : List (List ℕ)) (out out′ : List ℕ) (k : ℕ) (z : Bool) → Type 0
-Ran n rs out out′ k z = (out′ ≡ writeAt n rs out) × (k ≡ countAt n rs out) × (z ≡ moreAt n rs out)
 
 module _ (every : List (List ℕ)) (out₀ : List ℕ) (n₀ : ℕ) (xs ys : List (List ℕ)) (out : List ℕ) (k : ℕ) (s : Same every out₀ n₀ (xs ++ ys) out k)
     (long : Each (Long 16) xs) (out′ : List ℕ) (k′ : ℕ) (z : Bool) (r : Ran k xs out out′ k′ z) where

@@ -50,3 +50,7 @@ countAt n rs out = n + length (take (roomFor out - n) rs)
 
 unfoldable pub moreAt : (n : ℕ) (rs : List (List ℕ)) (out : List ℕ) → Bool
 moreAt n rs out = ltb (roomFor out - n) (length rs)
+
+-- rs written into out behind n others gives the bytes out′ and k records in all, and z tells whether some did not fit
+abbrev pub Ran : (n : ℕ) (rs : List (List ℕ)) (out out′ : List ℕ) (k : ℕ) (z : Bool) → Type 0
+Ran n rs out out′ k z = (out′ ≡ writeAt n rs out) × (k ≡ countAt n rs out) × (z ≡ moreAt n rs out)

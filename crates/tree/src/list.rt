@@ -8,7 +8,7 @@ ghost use Rattle.field.specs.Test.{both, pick};
 ghost use Rattle.field.specs.Bytes.{put};
 ghost use Rattle.page.specs.Page.{rowsOf, count, rows};
 ghost use Rattle.tree.specs.Answer.{between, inBounds, roomFor, written, countWritten, moreRemain};
-ghost use Rattle.tree.specs.Reader.{Sound, writeAt, countAt, moreAt};
+ghost use Rattle.tree.specs.Reader.{Sound, Ran};
 ghost use Rattle.tree.specs.Walk.{Ascending, keysWithin};
 use crate::walk;
 use crate::well;
@@ -38,7 +38,7 @@ fn put_record(rc: &[u8], out: &mut [u8], n: usize)
 // Writes a record behind n others, if its key is in bounds and it fits.
 fn list_one(rc: &[u8], low: u32, high: u32, out: &mut [u8], n: usize) -> Run
     requires { ⌜ (length (now rc) ≡ 16) × (n ≤ roomFor (now out)) ⌝ }
-    ensures { λ r. ⌜ (now (out .exit) ≡ writeAt n (between low high (now (rc .entry) ∷ [])) (now (out .entry))) × (r .count ≡ countAt n (between low high (now (rc .entry) ∷ [])) (now (out .entry))) × (r .more ≡ moreAt n (between low high (now (rc .entry) ∷ [])) (now (out .entry))) ⌝ }
+    ensures { λ r. ⌜ Ran n (between low high (now (rc .entry) ∷ [])) (now (out .entry)) (now (out .exit)) (r .count) (r .more) ⌝ }
 {
     let key = field::get4(rc, 2);
     if key < low {
@@ -69,7 +69,7 @@ fn list_one(rc: &[u8], low: u32, high: u32, out: &mut [u8], n: usize) -> Run
 // Writes those of m records of the page pg whose keys are in bounds behind n others, while they fit.
 fn list_leaf(pg: &[u8], m: u16, low: u32, high: u32, out: &mut [u8], n: usize) -> Run
     requires { ⌜ (16 + 16 * m ≤ length (now pg)) × (n ≤ roomFor (now out)) ⌝ }
-    ensures { λ r. ⌜ (now (out .exit) ≡ writeAt n (between low high (rowsOf 16 m (drop 16 (now (pg .entry))))) (now (out .entry))) × (r .count ≡ countAt n (between low high (rowsOf 16 m (drop 16 (now (pg .entry))))) (now (out .entry))) × (r .more ≡ moreAt n (between low high (rowsOf 16 m (drop 16 (now (pg .entry))))) (now (out .entry))) ⌝ }
+    ensures { λ r. ⌜ Ran n (between low high (rowsOf 16 m (drop 16 (now (pg .entry))))) (now (out .entry)) (now (out .exit)) (r .count) (r .more) ⌝ }
 {
     let mut k = n;
     let mut at: usize = 16;
@@ -104,7 +104,7 @@ fn whole(pg: &[u8], m: u16, low: u32, high: u32, room: usize) -> bool
 fn list_page(pg: &[u8], m: u16, low: u32, high: u32, out: &mut [u8], n: usize) -> Run
     requires { ⌜ (length (now pg) ≡ 256) × (m ≡ count (now pg)) × (16 + 16 * m ≤ 256) × (0 < m) × Ascending (rows 16 (now pg)) ⌝ }
     requires { ⌜ n ≤ roomFor (now out) ⌝ }
-    ensures { λ r. ⌜ (now (out .exit) ≡ writeAt n (between low high (rowsOf 16 m (drop 16 (now (pg .entry))))) (now (out .entry))) × (r .count ≡ countAt n (between low high (rowsOf 16 m (drop 16 (now (pg .entry))))) (now (out .entry))) × (r .more ≡ moreAt n (between low high (rowsOf 16 m (drop 16 (now (pg .entry))))) (now (out .entry))) ⌝ }
+    ensures { λ r. ⌜ Ran n (between low high (rowsOf 16 m (drop 16 (now (pg .entry))))) (now (out .entry)) (now (out .exit)) (r .count) (r .more) ⌝ }
 {
     if !whole(pg, m, low, high, out.len() / 16 - n) {
         return list_leaf(pg, m, low, high, out, n);

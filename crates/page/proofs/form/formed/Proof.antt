@@ -1,5 +1,6 @@
--- `page::form::formed` meets its contract: the kind of page that may stand in the place. Assumes nothing.
-use Rattle.page.proofs.Tests.{formed-root!, formed-base!, formed-leaf! }
+-- `page::form::formed` meets its contract. Assumes nothing.
+use Rattle.page.proofs.Tests.{formed-root! }
+use native.Mathlib.Omega.{arith}
 use borrow.Author.Needs.{needs}
 use Rattle.page.proofs.form.formed.Statement.{statement}
 use Rattle.page.proofs.form.formed.Tie as tie
@@ -10,17 +11,11 @@ is-root-requires c κs = search needs
 returns : tie.Need-returns
 returns c = search formed-root!
 
-base-or-empty-requires : tie.Need-base-or-empty-requires
-base-or-empty-requires c κs = search needs
+below-root-requires : tie.Need-below-root-requires
+below-root-requires c κs = omega arith
 
 returns-2 : tie.Need-returns-2
-returns-2 c = search formed-base!
-
-leaf-or-empty-requires : tie.Need-leaf-or-empty-requires
-leaf-or-empty-requires c κs = search needs
-
-returns-3 : tie.Need-returns-3
-returns-3 c = search formed-leaf!
+returns-2 c = search needs
 
 pub formed-spec : {M : Type 1} → statement M
-formed-spec = tie.close (tie.spec is-root-requires returns base-or-empty-requires returns-2 leaf-or-empty-requires returns-3)
+formed-spec = tie.close (tie.spec is-root-requires returns below-root-requires returns-2)

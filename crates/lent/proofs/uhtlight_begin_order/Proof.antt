@@ -26,9 +26,9 @@ use Rattle.walks.proofs.Meeting.{ownsBeside, LastBeside, saysBeside, asks-nothi
 use Rattle.walks.proofs.Beside.{lentMut, lentShared}
 use Rattle.store.proofs.known.Numbers as N
 use Rattle.store.proofs.known.Numbers.Laws as N′
-use Rattle.store.proofs.begin_order as core
-use Rattle.store.proofs.begin_order.Symbol as core-def
-use Rattle.store.proofs.begin_order.Met as core-thm
+use Rattle.beginning.proofs.begin_order as core
+use Rattle.beginning.proofs.begin_order.Symbol as core-def
+use Rattle.beginning.proofs.begin_order.Met as core-thm
 use Rattle.lent.proofs.Outer.{outer-runs}
 use Rattle.lent.proofs.OfReply.{ofReply}
 use Rattle.lent.proofs.uhtlight_begin_order as f

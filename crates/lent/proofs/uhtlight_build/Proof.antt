@@ -27,9 +27,9 @@ use Rattle.walks.proofs.Meeting.{ownsBeside, LastBeside, saysBeside, asks-nothi
 use Rattle.walks.proofs.Beside.{lentMut, lentShared, number}
 use Rattle.store.proofs.known.Numbers as N
 use Rattle.store.proofs.known.Numbers.Laws as N′
-use Rattle.store.proofs.build as core
-use Rattle.store.proofs.build.Symbol as core-def
-use Rattle.store.proofs.build.Met as core-thm
+use Rattle.building.proofs.build as core
+use Rattle.building.proofs.build.Symbol as core-def
+use Rattle.building.proofs.build.Met as core-thm
 use Rattle.lent.proofs.Outer.{outer-runs}
 use Rattle.lent.proofs.OfReply.{ofReply}
 use Rattle.lent.proofs.uhtlight_build as f

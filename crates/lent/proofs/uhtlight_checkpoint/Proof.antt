@@ -27,9 +27,9 @@ use Rattle.walks.proofs.Meeting.{ownsBeside, LastBeside, saysBeside, asks-nothi
 use Rattle.walks.proofs.Beside.{lentMut, lentShared, truth}
 use Rattle.store.proofs.known.Numbers as N
 use Rattle.store.proofs.known.Numbers.Laws as N′
-use Rattle.store.proofs.checkpoint as core
-use Rattle.store.proofs.checkpoint.Symbol as core-def
-use Rattle.store.proofs.checkpoint.Met as core-thm
+use Rattle.keeping.proofs.checkpoint as core
+use Rattle.keeping.proofs.checkpoint.Symbol as core-def
+use Rattle.keeping.proofs.checkpoint.Met as core-thm
 use Rattle.lent.proofs.Outer.{outer-runs}
 use Rattle.lent.proofs.OfReply.{ofReply}
 use Rattle.lent.proofs.uhtlight_checkpoint as f

@@ -27,9 +27,9 @@ use Rattle.walks.proofs.Meeting.{ownsBeside, LastBeside, saysBeside, asks-nothi
 use Rattle.walks.proofs.Beside.{lentShared, number}
 use Rattle.store.proofs.known.Numbers as N
 use Rattle.store.proofs.known.Numbers.Laws as N′
-use Rattle.store.proofs.find as core
-use Rattle.store.proofs.find.Symbol as core-def
-use Rattle.store.proofs.find.Met as core-thm
+use Rattle.answering.proofs.find as core
+use Rattle.answering.proofs.find.Symbol as core-def
+use Rattle.answering.proofs.find.Met as core-thm
 use Rattle.lent.proofs.Outer.{outer-runs}
 use Rattle.lent.proofs.OfFound.{ofFound}
 use Rattle.lent.proofs.uhtlight_find as f

@@ -29,9 +29,9 @@ use Rattle.walks.proofs.Meeting.{ownsBeside, LastBeside, saysBeside, asks-nothi
 use Rattle.walks.proofs.Beside.{handed, lentMut, lentShared}
 use Rattle.store.proofs.known.Numbers as N
 use Rattle.store.proofs.known.Numbers.Laws as N′
-use Rattle.store.proofs.flush as core
-use Rattle.store.proofs.flush.Symbol as core-def
-use Rattle.store.proofs.flush.Met as core-thm
+use Rattle.keeping.proofs.flush as core
+use Rattle.keeping.proofs.flush.Symbol as core-def
+use Rattle.keeping.proofs.flush.Met as core-thm
 use Rattle.lent.proofs.Outer.{outer-runs}
 use Rattle.lent.proofs.OfReply.{ofReply}
 use Rattle.lent.proofs.uhtlight_flush as f

@@ -26,9 +26,9 @@ use Rattle.walks.proofs.Meeting.{ownsBeside, LastBeside, saysBeside, asks-nothi
 use Rattle.walks.proofs.Beside.{lentShared}
 use Rattle.store.proofs.known.Numbers as N
 use Rattle.store.proofs.known.Numbers.Laws as N′
-use Rattle.store.proofs.force as core
-use Rattle.store.proofs.force.Symbol as core-def
-use Rattle.store.proofs.force.Met as core-thm
+use Rattle.keeping.proofs.force as core
+use Rattle.keeping.proofs.force.Symbol as core-def
+use Rattle.keeping.proofs.force.Met as core-thm
 use Rattle.lent.proofs.Outer.{outer-runs}
 use Rattle.lent.proofs.OfReply.{ofReply}
 use Rattle.lent.proofs.uhtlight_force as f

@@ -27,9 +27,9 @@ use Rattle.walks.proofs.Meeting.{ownsBeside, LastBeside, saysBeside, asks-nothi
 use Rattle.walks.proofs.Beside.{lentMut, lentShared, number}
 use Rattle.store.proofs.known.Numbers as N
 use Rattle.store.proofs.known.Numbers.Laws as N′
-use Rattle.store.proofs.list as core
-use Rattle.store.proofs.list.Symbol as core-def
-use Rattle.store.proofs.list.Met as core-thm
+use Rattle.answering.proofs.list as core
+use Rattle.answering.proofs.list.Symbol as core-def
+use Rattle.answering.proofs.list.Met as core-thm
 use Rattle.lent.proofs.Outer.{outer-runs}
 use Rattle.lent.proofs.OfListed.{ofListed}
 use Rattle.lent.proofs.uhtlight_list as f

@@ -26,9 +26,9 @@ use Rattle.walks.proofs.Meeting.{ownsBeside, LastBeside, saysBeside, asks-nothi
 use Rattle.walks.proofs.Beside.{lentMut, lentShared}
 use Rattle.store.proofs.known.Numbers as N
 use Rattle.store.proofs.known.Numbers.Laws as N′
-use Rattle.forward.proofs.recover as core
-use Rattle.forward.proofs.recover.Symbol as core-def
-use Rattle.forward.proofs.recover.Met as core-thm
+use Rattle.recovering.proofs.recover as core
+use Rattle.recovering.proofs.recover.Symbol as core-def
+use Rattle.recovering.proofs.recover.Met as core-thm
 use Rattle.lent.proofs.Outer.{outer-runs}
 use Rattle.lent.proofs.OfRecovered.{ofRecovered}
 use Rattle.lent.proofs.uhtlight_recover as f

@@ -26,9 +26,9 @@ use Rattle.walks.proofs.Meeting.{ownsBeside, LastBeside, saysBeside, asks-nothi
 use Rattle.walks.proofs.Beside.{lentMut}
 use Rattle.store.proofs.known.Numbers as N
 use Rattle.store.proofs.known.Numbers.Laws as N′
-use Rattle.forward.proofs.step as core
-use Rattle.forward.proofs.step.Symbol as core-def
-use Rattle.forward.proofs.step.Met as core-thm
+use Rattle.stepping.proofs.step as core
+use Rattle.stepping.proofs.step.Symbol as core-def
+use Rattle.stepping.proofs.step.Met as core-thm
 use Rattle.lent.proofs.Outer.{outer-runs}
 use Rattle.lent.proofs.OfReply.{ofReply}
 use Rattle.lent.proofs.uhtlight_step as f

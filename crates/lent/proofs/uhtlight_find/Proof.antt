@@ -61,5 +61,5 @@ unfolding code.routine
 uhtlight-find-spec 𝓤 H 𝓜 𝓖 𝓡 =
     met-over 𝓤 H 𝓜 𝓖 𝓡 f.signature (f.spec 𝓤 H (𝓖 .A) (𝓜 .mem) (𝓡 .run)) code.env key.name code.function (code.unfolded 𝓤 H 𝓜 𝓡) spelled
     (λ κs. (mut-tells (named 0) (κs .0) N.the-row, (shr-slice-tells (named 1) (κs .1 .0) u8, (shr-slice-tells (named 2) (κs .1 .1 .0) u8, (uint-tells w32, tt)))))
-    core-def.name core-def.routine code.calls-store·find core.signature (core.spec 𝓤 H (𝓖 .A) (𝓜 .mem) (𝓡 .run)) (core-thm.met 𝓤 H 𝓜 𝓖 𝓡)
+    core-def.name core-def.routine code.calls-answering·find core.signature (core.spec 𝓤 H (𝓖 .A) (𝓜 .mem) (𝓡 .run)) (core-thm.met 𝓤 H 𝓜 𝓖 𝓡)
     (walk 𝓤 H (𝓖 .A) (givenOf 𝓤 H 𝓜 𝓖) (𝓜 .mem) (𝓡 .run))

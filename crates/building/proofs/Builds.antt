@@ -1,13 +1,13 @@
 -- Each way through build's tests, as a law. Assumes nothing.
 use Prim.Native.Nat.{ℕ, _/_, _%_, _≤_, _<_}
 use mathlib.Core.Path.{_≡_, refl, sym, ap, _∙_}
-use mathlib.Core.Bool.{Bool, true, false}
+use mathlib.Core.Bool.{Bool, true, false, not}
 use mathlib.Core.List.{List, [], _∷_}
 use mathlib.Core.Option.{none}
 use lib.ListN.{length}
 use lib.Dec.{eqb, leb}
 use Rattle.field.specs.Test.{both, all, pick}
-use borrow.Author.Tests.{le-leb, lt-leb, leb-true}
+use borrow.Author.Tests.{le-leb, lt-leb, leb-true, not-true, not-false}
 use Rattle.field.specs.Bytes.{put, zeroes}
 use Rattle.field.proofs.Test.{both-intro, both-true, both-false, all-head, all-tail, all-true, all-false, need-true, need-false}
 use Rattle.field.proofs.Part.{put-whole}
@@ -17,7 +17,7 @@ use Rattle.log.specs.Record.{Check, encodeCheck}
 use Rattle.log.specs.Write.{lkOf, checkOf}
 use Rattle.log.proofs.Append.{put-zeroes}
 use Rattle.tree.specs.Layout.{leafGroups, baseGroups, layout}
-use Rattle.store.specs.Calls.{Lent, lent, left, refused, threeSized, newLog, build}
+use Rattle.store.specs.Calls.{Lent, lent, Left, left, refused, threeSized, newLog, build}
 use Rattle.building.specs.Ranges as Ranges
 use Rattle.store.proofs.Chain.{three-no-work, three-no-store, three-no-log, three-sized}
 
@@ -65,6 +65,10 @@ module _ (f g : ℕ) (d : Lent) where
 
 -- ---- build's answers, over what the code has there
 
+-- what a refusal returns: the reply, and the numbers as they were
+abbrev Kept : (used forced r v u n : ℕ) → Type 0
+Kept used forced r v u n = (v ≡ r) × (u ≡ used) × (n ≡ forced)
+
 module _ (used forced : ℕ) (work store log records : List ℕ) (f g : ℕ) where
   abbrev lentAs : Lent
   lentAs = lent used forced work store log records
@@ -73,56 +77,66 @@ module _ (used forced : ℕ) (work store log records : List ℕ) (f g : ℕ) whe
   rows = rowsOf 16 (length records / 16) records
 
   module _ (v u n : ℕ) where
+    abbrev got : Left
+    got = left v [] (lent u n work store log records)
+
     -- a refusal leaves all
-    refused-as : (r : ℕ) → build f g lentAs ≡ refused 0 r lentAs → v ≡ r → u ≡ used → n ≡ forced → left v [] (lent u n work store log records) ≡ build f g lentAs
+    refused-as : (r : ℕ) → build f g lentAs ≡ refused 0 r lentAs → Kept used forced r v u n → got ≡ build f g lentAs
     unfolding refused zeroes
-    refused-as r e a b c = rw (a, b, c) (sym e)
+    refused-as r e k = rw (k .0, k .1, k .2) (sym e)
 
-    pub build-no-work : v ≡ 1 → u ≡ used → n ≡ forced → (length work ≡ 16384 → ⊥) → left v [] (lent u n work store log records) ≡ build f g lentAs
-    build-no-work a b c h = refused-as 1 (build-unsized f g lentAs (three-no-work lentAs h)) a b c
+    pub build-no-work! : Kept used forced 1 v u n → (length work ≡ 16384 → ⊥) → got ≡ build f g lentAs
+    build-no-work! k h = refused-as 1 (build-unsized f g lentAs (three-no-work lentAs h)) k
 
-    module _ (w : length work ≡ 16384) where
-      pub build-no-store : v ≡ 1 → u ≡ used → n ≡ forced → (length store ≡ 16384 → ⊥) → left v [] (lent u n work store log records) ≡ build f g lentAs
-      build-no-store a b c h = refused-as 1 (build-unsized f g lentAs (three-no-store lentAs w h)) a b c
+    pub build-no-store! : Kept used forced 1 v u n → (length store ≡ 16384 → ⊥) → length work ≡ 16384 → got ≡ build f g lentAs
+    build-no-store! k h w = refused-as 1 (build-unsized f g lentAs (three-no-store lentAs w h)) k
 
-      module _ (s : length store ≡ 16384) where
-        pub build-no-log : v ≡ 1 → u ≡ used → n ≡ forced → (length log ≡ 8192 → ⊥) → left v [] (lent u n work store log records) ≡ build f g lentAs
-        build-no-log a b c h = refused-as 1 (build-unsized f g lentAs (three-no-log lentAs w s h)) a b c
+    module _ (w : length work ≡ 16384) (s : length store ≡ 16384) where
+      pub build-no-log! : Kept used forced 1 v u n → (length log ≡ 8192 → ⊥) → got ≡ build f g lentAs
+      build-no-log! k h = refused-as 1 (build-unsized f g lentAs (three-no-log lentAs w s h)) k
 
-        module _ (l : length log ≡ 8192) where
-          pub build-no-range : v ≡ 12 → u ≡ used → n ≡ forced → Ranges.inRange f g (length records) ≡ false → left v [] (lent u n work store log records) ≡ build f g lentAs
+      module _ (l : length log ≡ 8192) (x : Bool) (xe : x ≡ Ranges.inRange f g (length records)) where
+        pub build-no-range! : Kept used forced 12 v u n → not x ≡ true → got ≡ build f g lentAs
+        unfolding Ranges.inRange
+        build-no-range! k h = refused-as 12 (build-range f g lentAs (three-sized lentAs w s l) (sym xe ∙ not-true x h)) k
+
+        module _ (t : not x ≡ false) (y : Bool) (ye : y ≡ ascendRecords 0 rows) where
+          pub build-no-order! : Kept used forced 16 v u n → not y ≡ true → got ≡ build f g lentAs
           unfolding Ranges.inRange
-          build-no-range a b c h = refused-as 12 (build-range f g lentAs (three-sized lentAs w s l) h) a b c
+          build-no-order! k h =
+              refused-as 16 (build-order f g lentAs (three-sized lentAs w s l) (sym xe ∙ not-false x t) (sym ye ∙ not-true y h)) k
 
-          module _ (r : Ranges.inRange f g (length records) ≡ true) where
-            pub build-no-order : v ≡ 16 → u ≡ used → n ≡ forced → ascendRecords 0 rows ≡ false → left v [] (lent u n work store log records) ≡ build f g lentAs
+          module _ (o : not y ≡ false) (i : ℕ) (ie : i ≡ length (leafGroups f rows)) where
+            many : fits f g lentAs ≡ false → Kept used forced 17 v u n → got ≡ build f g lentAs
             unfolding Ranges.inRange
-            build-no-order a b c h = refused-as 16 (build-order f g lentAs (three-sized lentAs w s l) r h) a b c
+            many e k = refused-as 17 (build-many f g lentAs (three-sized lentAs w s l) (sym xe ∙ not-false x t) (sym ye ∙ not-false y o) e) k
 
-            module _ (o : ascendRecords 0 rows ≡ true) where
-              pub build-no-leaves : v ≡ 17 → u ≡ used → n ≡ forced → 56 < length (leafGroups f rows) → left v [] (lent u n work store log records) ≡ build f g lentAs
-              unfolding Ranges.inRange
-              build-no-leaves a b c h =
-                  refused-as 17 (build-many f g lentAs (three-sized lentAs w s l) r o (both-false _ _ (lt-leb (length (leafGroups f rows)) 56 h))) a b c
+            pub build-no-leaves! : Kept used forced 17 v u n → 56 < i → got ≡ build f g lentAs
+            build-no-leaves! k h = many (both-false _ _ (lt-leb (length (leafGroups f rows)) 56 (rw ie at h))) k
 
-              pub build-no-bases : v ≡ 17 → u ≡ used → n ≡ forced → length (leafGroups f rows) ≤ 56 → 7 < length (baseGroups f g rows)
-                  → left v [] (lent u n work store log records) ≡ build f g lentAs
-              unfolding Ranges.inRange
-              build-no-bases a b c k h =
-                  refused-as 17
-                  (build-many f g lentAs (three-sized lentAs w s l) r o
-                  (both-true _ _ (le-leb (length (leafGroups f rows)) 56 k) ∙ lt-leb (length (baseGroups f g rows)) 7 h)) a b c
+            pub build-no-bases! : Kept used forced 17 v u n → (j : ℕ) → j ≡ length (baseGroups f g rows) → 7 < j → i ≤ 56 → got ≡ build f g lentAs
+            build-no-bases! k j je h m =
+                many (both-true _ _ (le-leb (length (leafGroups f rows)) 56 (rw ie at m)) ∙ lt-leb (length (baseGroups f g rows)) 7 (rw je at h)) k
+
+  -- the tests that a build has passed
+  pub record Passed : Type 0 where
+    pub work-sized : length work ≡ 16384
+    pub store-sized : length store ≡ 16384
+    pub log-sized : length log ≡ 8192
+    pub ranged : Ranges.inRange f g (length records) ≡ true
+    pub ordered : ascendRecords 0 rows ≡ true
+    pub leaves : length (leafGroups f rows) ≤ 56
+    pub bases : length (baseGroups f g rows) ≤ 7
 
   -- the tree in work and store, and a new log
-  pub build-all : (w′ s′ l′ : List ℕ) → length work ≡ 16384 → length store ≡ 16384 → length log ≡ 8192 → Ranges.inRange f g (length records) ≡ true
-      → ascendRecords 0 rows ≡ true → length (leafGroups f rows) ≤ 56 → length (baseGroups f g rows) ≤ 7
-      → w′ ≡ layout f g rows → s′ ≡ layout f g rows → l′ ≡ newLog (checkOf 1 0 false 0)
+  pub build-all : (w′ s′ l′ : List ℕ) → Passed → w′ ≡ layout f g rows → s′ ≡ layout f g rows → l′ ≡ newLog (checkOf 1 0 false 0)
       → left 0 [] (lent 24 24 w′ s′ l′ records) ≡ build f g lentAs
   unfolding Ranges.inRange checkOf lkOf pick
-  build-all w′ s′ l′ w s l r o k h a b c =
-      rw (a, b, c)
-      (sym (build-builds f g lentAs (three-sized lentAs w s l) r o
-      (both-intro _ _ (le-leb (length (leafGroups f rows)) 56 k) (le-leb (length (baseGroups f g rows)) 7 h))))
+  build-all w′ s′ l′ p a b c =
+      let sized : threeSized lentAs ≡ true = three-sized lentAs (p .work-sized) (p .store-sized) (p .log-sized) in
+      let few : fits f g lentAs ≡ true =
+      both-intro _ _ (le-leb (length (leafGroups f rows)) 56 (p .leaves)) (le-leb (length (baseGroups f g rows)) 7 (p .bases)) in
+      rw (a, b, c) (sym (build-builds f g lentAs sized (p .ranged) (p .ordered) few))
 
 -- ---- the parts
 

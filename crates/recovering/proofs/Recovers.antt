@@ -182,85 +182,123 @@ some-repeats : (l v v′ : List ℕ) (g : Log) → readLog l ≡ some g → repe
 unfolding repeated
 some-repeats l v v′ g e h = sym (bind-intro (readLog l) _ g e) ∙ h
 
-module _ (used forced : ℕ) (work store log : List ℕ) where
+-- what a refusal past test 1 returns and leaves
+abbrev Blanked : (w : List ℕ) (used forced reply v c u f : ℕ) → Type 0
+Blanked w used forced reply v c u f = (w ≡ zeroes 16384) × (v ≡ reply) × (c ≡ 0) × (u ≡ used) × (f ≡ forced)
+
+module _ (used forced : ℕ) (work store log : List ℕ) (v c u f : ℕ) where
   abbrev given : Lent
   given = lent used forced work store log []
 
+  abbrev got : (w : List ℕ) → Left
+  got w = left v (c ∷ []) (lent u f w store log [])
+
   -- reply 1 leaves all
-  unsized : (v c u f : ℕ) → recover given ≡ refused 1 1 given → Says used forced 1 v c u f → left v (c ∷ []) (lent u f work store log []) ≡ recover given
+  unsized : recover given ≡ refused 1 1 given → Says used forced 1 v c u f → got work ≡ recover given
   unfolding refused zeroes
-  unsized v c u f e s = rw (s .0, s .1, s .2, s .3) (sym e)
+  unsized e s = rw (s .0, s .1, s .2, s .3) (sym e)
 
-  pub recover-no-work : (v c u f : ℕ) → (length work ≡ 16384 → ⊥) → Says used forced 1 v c u f → left v (c ∷ []) (lent u f work store log []) ≡ recover given
-  recover-no-work v c u f a s = unsized v c u f (recover-unsized given (three-no-work given a)) s
+  pub recover-no-work! : Says used forced 1 v c u f → (length work ≡ 16384 → ⊥) → got work ≡ recover given
+  recover-no-work! s a = unsized (recover-unsized given (three-no-work given a)) s
 
-  module _ (a : length work ≡ 16384) where
-    pub recover-no-store : (v c u f : ℕ) → (length store ≡ 16384 → ⊥) → Says used forced 1 v c u f → left v (c ∷ []) (lent u f work store log []) ≡ recover given
-    recover-no-store v c u f b s = unsized v c u f (recover-unsized given (three-no-store given a b)) s
+  pub recover-no-store! : Says used forced 1 v c u f → (length store ≡ 16384 → ⊥) → length work ≡ 16384 → got work ≡ recover given
+  recover-no-store! s b a = unsized (recover-unsized given (three-no-store given a b)) s
 
-    module _ (b : length store ≡ 16384) where
-      pub recover-no-log : (v c u f : ℕ) → (length log ≡ 8192 → ⊥) → Says used forced 1 v c u f → left v (c ∷ []) (lent u f work store log []) ≡ recover given
-      recover-no-log v c u f h s = unsized v c u f (recover-unsized given (three-no-log given a b h)) s
+  pub recover-no-log! : Says used forced 1 v c u f → (length log ≡ 8192 → ⊥) → length work ≡ 16384 → length store ≡ 16384 → got work ≡ recover given
+  recover-no-log! s h a b = unsized (recover-unsized given (three-no-log given a b h)) s
 
-      module _ (h : length log ≡ 8192) (x : Scan) (e : x ≡ scanned 0 log) where
-        sized : threeSized given ≡ true
-        sized = three-sized given a b h
+  -- the other refusals leave zeros
+  blanks : (r : ℕ) (w : List ℕ) → recover given ≡ zeroed r given → Blanked w used forced r v c u f → got w ≡ recover given
+  blanks r w q b = zeroed-as given r v c u f w (b .0) (b .1, b .2, b .3, b .4) ∙ sym q
 
-        walked : x .walk ≡ (scanned 0 log) .walk
-        walked = ap (λ (y : Scan). y .walk) e
+module _ (used forced : ℕ) (work store log : List ℕ) (a : length work ≡ 16384) (b : length store ≡ 16384) (h : length log ≡ 8192) where
+  abbrev d′ : Lent
+  d′ = lent used forced work store log []
 
-        blanks : (r v c u f : ℕ) (w : List ℕ) → recover given ≡ zeroed r given → w ≡ zeroes 16384 → Says used forced r v c u f
-            → left v (c ∷ []) (lent u f w store log []) ≡ recover given
-        blanks r v c u f w q z s = zeroed-as given r v c u f w z s ∙ sym q
+  sized : threeSized d′ ≡ true
+  sized = three-sized d′ a b h
 
-        pub recover-broken : (v c u f : ℕ) (w : List ℕ) → not (x .walk .ok) ≡ true → w ≡ zeroes 16384 → Says used forced 2 v c u f
-            → left v (c ∷ []) (lent u f w store log []) ≡ recover given
-        recover-broken v c u f w k =
-            blanks 2 v c u f w (recover-unread given sized (unread-by log (readLog log) refl (sym (ap (λ (y : Walk). y .ok) walked) ∙ not-true _ k)))
+  module _ (x : Scan) (e : x ≡ scanned 0 log) where
+    walked : x .walk ≡ (scanned 0 log) .walk
+    walked = ap (λ (y : Scan). y .walk) e
 
-        module _ (k : not (x .walk .ok) ≡ false) where
-          read : Was log (x .walk)
-          read = was log (x .walk) walked (not-false _ k)
+    pub recover-broken! : (w : List ℕ) (v c u f : ℕ) → Blanked w used forced 2 v c u f → not (x .walk .ok) ≡ true
+        → left v (c ∷ []) (lent u f w store log []) ≡ recover d′
+    recover-broken! w v c u f l k =
+        blanks used forced work store log v c u f 2 w
+        (recover-unread d′ sized (unread-by log (readLog log) refl (sym (ap (λ (y : Walk). y .ok) walked) ∙ not-true _ k))) l
 
-          pub recover-reads : there (readLog log) ≡ true
-          recover-reads = there-some (readLog log) (read .log) (read .read)
+    module _ (k : not (x .walk .ok) ≡ false) where
+      read : Was log (x .walk)
+      read = was log (x .walk) walked (not-false _ k)
 
-          pub recover-form : (v c u f : ℕ) (w : List ℕ) → allFormed 0 (pages store) ≡ false → w ≡ zeroes 16384 → Says used forced 3 v c u f
-              → left v (c ∷ []) (lent u f w store log []) ≡ recover given
-          recover-form v c u f w i = blanks 3 v c u f w (recover-unformed given sized (read .log) (read .read) i)
+      pub recover-reads! : there (readLog log) ≡ true
+      recover-reads! = there-some (readLog log) (read .log) (read .read)
 
-          module _ (i : allFormed 0 (pages store) ≡ true) where
-            last-is : noneNewer (x .walk .number) (pages store) ≡ noneNewer (atEnd (read .log) .number) (pages store)
-            last-is = ap (λ (n : ℕ). noneNewer n (pages store)) (number-is (atEnd (read .log)) (x .walk) (read .shows))
+      module _ (y : Bool) (ye : y ≡ allFormed 0 (pages store)) where
+        pub recover-form! : (w : List ℕ) (v c u f : ℕ) → Blanked w used forced 3 v c u f → not y ≡ true
+            → left v (c ∷ []) (lent u f w store log []) ≡ recover d′
+        recover-form! w v c u f l i =
+            blanks used forced work store log v c u f 3 w (recover-unformed d′ sized (read .log) (read .read) (sym ye ∙ not-true y i)) l
 
-            pub recover-ahead : (v c u f : ℕ) (w : List ℕ) → noneNewer (x .walk .number) (pages store) ≡ false → w ≡ zeroes 16384 → Says used forced 4 v c u f
-                → left v (c ∷ []) (lent u f w store log []) ≡ recover given
-            recover-ahead v c u f w n = blanks 4 v c u f w (recover-newer given sized (read .log) (read .read) i (sym last-is ∙ n))
+        module _ (i : not y ≡ false) (z : Bool) (ze : z ≡ noneNewer (x .walk .number) (pages store)) where
+          formed : allFormed 0 (pages store) ≡ true
+          formed = sym ye ∙ not-false y i
 
-            module _ (n : noneNewer (x .walk .number) (pages store) ≡ true) (w₁ : List ℕ) (copied : w₁ ≡ put 0 store work) where
-              start : w₁ ≡ store
-              start = copied ∙ put-whole store work (b ∙ sym a)
+          last-is : z ≡ noneNewer (atEnd (read .log) .number) (pages store)
+          last-is = ze ∙ ap (λ (n : ℕ). noneNewer n (pages store)) (number-is (atEnd (read .log)) (x .walk) (read .shows))
 
-              module _ (r : Bool) (w₂ : List ℕ) (q : Repeated log w₁ r w₂) where
-                pub recover-stuck : (v c u f : ℕ) (w : List ℕ) → not r ≡ true → w ≡ zeroes 16384 → Says used forced 5 v c u f
-                    → left v (c ∷ []) (lent u f w store log []) ≡ recover given
-                recover-stuck v c u f w m =
-                    blanks 5 v c u f w
-                    (recover-undone given sized (read .log) (read .read) i (sym last-is ∙ n)
-                    (none-repeats log store (read .log) (read .read) (sym (ap (λ (y : List ℕ). there (repeated log y)) start) ∙ sym (q .said) ∙ not-true _ m)))
+          pub recover-ahead! : (w : List ℕ) (v c u f : ℕ) → Blanked w used forced 4 v c u f → not z ≡ true
+              → left v (c ∷ []) (lent u f w store log []) ≡ recover d′
+          recover-ahead! w v c u f l n =
+              blanks used forced work store log v c u f 4 w (recover-newer d′ sized (read .log) (read .read) formed (sym last-is ∙ not-true z n)) l
 
-                module _ (m : not r ≡ false) where
-                  again : repeatAll (read .log .top .number + 1) (read .log .recs) store ≡ some w₂
-                  again = some-repeats log store w₂ (read .log) (read .read) (sym (ap (repeated log) start) ∙ q .left (not-false _ m))
+-- the tests that are passed where the log is repeated
+pub record Tested (work store log : List ℕ) (x : Scan) : Type 0 where
+  pub work-sized : length work ≡ 16384
+  pub store-sized : length store ≡ 16384
+  pub log-sized : length log ≡ 8192
+  pub scans : x ≡ scanned 0 log
+  pub ok : not (x .walk .ok) ≡ false
+  pub formed-all : allFormed 0 (pages store) ≡ true
+  pub newer : noneNewer (x .walk .number) (pages store) ≡ true
 
-                  pub recover-found : Bytes log → Found w₂ log (x .walk)
-                  recover-found y =
-                      record {
-                        form = log-form (read .log) store w₂ (readLog-facts log (read .log) (read .read) .good y) (record { whole = b; forms = i }) again;
-                        long = h;
-                        walk = walked;
-                        ok = not-false _ k;
-                      }
+module _ (used forced : ℕ) (work store log : List ℕ) (x : Scan) (t : Tested work store log x) (w₁ : List ℕ) (copied : w₁ ≡ put 0 store work) (r : Bool)
+    (w₂ : List ℕ) (q : Repeated log w₁ r w₂) where
+  abbrev d″ : Lent
+  d″ = lent used forced work store log []
 
-                  pub recover-goes : (y : Left) → y ≡ completing given w₂ → y ≡ recover given
-                  recover-goes y z = z ∙ sym (recover-completes given sized (read .log) (read .read) i (sym last-is ∙ n) w₂ again)
+  start : w₁ ≡ store
+  start = copied ∙ put-whole store work (t .store-sized ∙ sym (t .work-sized))
+
+  whole : threeSized d″ ≡ true
+  whole = three-sized d″ (t .work-sized) (t .store-sized) (t .log-sized)
+
+  was-read : Was log (x .walk)
+  was-read = was log (x .walk) (ap (λ (y : Scan). y .walk) (t .scans)) (not-false _ (t .ok))
+
+  none-newer : noneNewer (atEnd (was-read .log) .number) (pages store) ≡ true
+  none-newer = sym (ap (λ (n : ℕ). noneNewer n (pages store)) (number-is (atEnd (was-read .log)) (x .walk) (was-read .shows))) ∙ t .newer
+
+  pub recover-stuck! : (w : List ℕ) (v c u f : ℕ) → Blanked w used forced 5 v c u f → not r ≡ true
+      → left v (c ∷ []) (lent u f w store log []) ≡ recover d″
+  recover-stuck! w v c u f l m =
+      let none-left = none-repeats log store (was-read .log) (was-read .read) (sym (ap (λ (y : List ℕ). there (repeated log y)) start) ∙ sym (q .said) ∙ not-true _ m) in
+      blanks used forced work store log v c u f 5 w (recover-undone d″ whole (was-read .log) (was-read .read) (t .formed-all) none-newer none-left) l
+
+  module _ (m : not r ≡ false) where
+    again : repeatAll (was-read .log .top .number + 1) (was-read .log .recs) store ≡ some w₂
+    again = some-repeats log store w₂ (was-read .log) (was-read .read) (sym (ap (repeated log) start) ∙ q .left (not-false _ m))
+
+    pub recover-found : Bytes log → Found w₂ log (x .walk)
+    recover-found y =
+        let good = readLog-facts log (was-read .log) (was-read .read) .good y in
+        record {
+          form = log-form (was-read .log) store w₂ good (record { whole = t .store-sized; forms = t .formed-all }) again;
+          long = t .log-sized;
+          walk = ap (λ (y : Scan). y .walk) (t .scans);
+          ok = not-false _ (t .ok);
+        }
+
+    pub recover-goes : (y : Left) → y ≡ completing d″ w₂ → y ≡ recover d″
+    recover-goes y g = g ∙ sym (recover-completes d″ whole (was-read .log) (was-read .read) (t .formed-all) none-newer w₂ again)

@@ -4,7 +4,8 @@ use mathlib.Core.Path.{sym, _∙_}
 use borrow.Author.Tests.{not-true, not-false}
 use Rattle.field.specs.Bytes.{Bytes}
 use Rattle.beginning.proofs.Units.{compact-writable}
-use Rattle.beginning.proofs.Begins.{ready-facts, compact-is, compact-fill, compact-with, begin-work, begin-log, begin-form, begin-inside, begin-tests, begin-nothing, begin-goes}
+use Rattle.beginning.proofs.Begins.{ready-facts, compact-is, compact-fill, compact-with, begin-work, begin-log, begin-form, begin-inside}
+use Rattle.beginning.proofs.Begins.{begin-tests, begin-nothing, begin-goes}
 use borrow.Author.Needs.{needs}
 use Rattle.beginning.proofs.begin_compact.Statement.{statement}
 use Rattle.beginning.proofs.begin_compact.Tie as tie

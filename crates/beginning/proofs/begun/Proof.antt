@@ -27,7 +27,15 @@ add-if1 c =
     let n = s .before in
     let a = n .before .before .before in
     let b : Bytes (a .args .work .now) = λ i. omega (arith, n .before .before .shared-slice-known .given i) in
-    omega (arith, lb-long _ (s .size-of .ensures), a .pre .2, n .needed .ensures .0, room-most (a .args .work .now) b (plan (recordOf (a .args .c) 0)), plan-few (recordOf (a .args .c) 0) (a .pre .3 .ok))
+    omega (
+      arith,
+      lb-long _ (s .size-of .ensures),
+      a .pre .2,
+      n .needed .ensures .0,
+      room-most (a .args .work .now) b (plan (recordOf (a .args .c) 0)),
+      plan-few
+          (recordOf (a .args .c) 0) (a .pre .3 .ok),
+    )
 
 kept-requires : tie.Need-kept-requires
 kept-requires c κs = search needs

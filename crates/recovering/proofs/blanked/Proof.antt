@@ -16,8 +16,13 @@ same-length c = search needs
 
 returns : tie.Need-returns
 returns c =
-    let a = c .before .before .before .before .before .before in
-    (c .before .before .before .clear .ensures ∙ all-blank (a .args .work .now) (a .pre), c .declined .ensures .0, c .declined .ensures .1, c .declined .ensures .2, c .declined .ensures .3)
+    let a = c .before .before .before .before .before .before in (
+      c .before .before .before .clear .ensures ∙ all-blank (a .args .work .now) (a .pre),
+      c .declined .ensures .0,
+      c .declined .ensures .1,
+      c .declined .ensures .2,
+      c .declined .ensures .3,
+    )
 
 pub blanked-spec : {M : Type 1} → statement M
 blanked-spec = tie.close (tie.spec clear-requires declined-requires same-length returns)

@@ -22,10 +22,14 @@ same-length-2 c = search needs
 
 returns : tie.Need-returns
 returns c =
+    let c4 = c .before .before .before .before in
+    let c7 = c4 .before .before .before in
+    let c13 = c7 .before .before .before .before .before .before in
     let a = c .before .before .before .before .before .before .before .before .before .before .before .before .before .before .before .before .before .before in
-    let f = c .before .before .before .before .before .before .before .before .before .before .before .before .before .finish in
-    let e = c .before .before .before .before .taken-back .ensures in
-    (λ w s. complete-stops (a .args .work .now) (a .args .log .now) (a .args .found) (a .pre) _ _ w s _ _ _ _ (f .ensures) _ _ (f .kept .1 .0) (e .0) (e .1) _ _ _ _ (c .before .before .before .before .before .before .before .if1 .taken) (e .2, e .3, e .4, e .5))
+    let f = c13 .finish in
+    let e = c4 .taken-back .ensures in
+    (λ w s. complete-stops (a .args .work .now) (a .args .log .now) (a .args .found) (a .pre) _ _ w s _ _ _ _ (f .ensures) _ _ (f .kept .1 .0) (e .0) (e .1) _ _
+    _ _ (c7 .if1 .taken) (e .2, e .3, e .4, e .5))
 
 well-formed-requires : tie.Need-well-formed-requires
 well-formed-requires c κs = c .before .before .before .before .before .before .before .finish .ensures .done (c .before .if1 .left) .form
@@ -43,11 +47,17 @@ same-length-4 c = search needs
 
 returns-2 : tie.Need-returns-2
 returns-2 c =
+    let c4 = c .before .before .before .before in
+    let c7 = c4 .before .before .before in
+    let c8 = c7 .before in
+    let c10 = c8 .before .before in
+    let c16 = c10 .before .before .before .before .before .before in
     let a = c .before .before .before .before .before .before .before .before .before .before .before .before .before .before .before .before .before .before .before .before .before in
-    let f = c .before .before .before .before .before .before .before .before .before .before .before .before .before .before .before .before .finish in
-    let e = c .before .before .before .before .taken-back2 .ensures in
-    (λ w s. complete-unwell (a .args .work .now) (a .args .log .now) (a .args .found) (a .pre) _ _ w s _ _ _ _ (f .ensures) _ _ (f .kept .1 .0) (e .0) (e .1) _ _ _ _ (c .before .before .before .before .before .before .before .before .before .before .if1 .left)
-    (sym (c .before .before .before .before .before .before .before .before .well-formed .ensures) ∙ not-true _ (c .before .before .before .before .before .before .before .if2 .taken)) (e .2, e .3, e .4, e .5))
+    let f = c16 .finish in
+    let e = c4 .taken-back2 .ensures in
+    (λ w s. complete-unwell (a .args .work .now) (a .args .log .now) (a .args .found) (a .pre) _ _ w s _ _ _ _ (f .ensures) _ _ (f .kept .1 .0) (e .0) (e .1) _
+    _ _ _ (c10 .if1 .left)
+    (sym (c8 .well-formed .ensures) ∙ not-true _ (c7 .if2 .taken)) (e .2, e .3, e .4, e .5))
 
 accepted-requires : tie.Need-accepted-requires
 accepted-requires c κs =
@@ -63,8 +73,10 @@ same-length-6 c = search needs
 
 returns-3 : tie.Need-returns-3
 returns-3 c =
+    let c4 = c .before .before .before .before in
+    let c10 = c4 .before .before .before .before .before .before in
     let a = c .before .before .before .before .before .before .before .before .before .before .before .before .before .before .before in
-    (λ w s. complete-accepts (a .args .work .now) (a .args .log .now) (a .args .found) (a .pre) _ _ w s _ _ _ _ (c .before .before .before .before .before .before .before .before .before .before .finish .ensures) _ _ _ _ (c .before .before .before .before .if1 .left)
+    (λ w s. complete-accepts (a .args .work .now) (a .args .log .now) (a .args .found) (a .pre) _ _ w s _ _ _ _ (c10 .finish .ensures) _ _ _ _ (c4 .if1 .left)
     (sym (c .before .before .well-formed .ensures) ∙ not-false _ (c .before .if2 .left)) (c .accepted .ensures))
 
 pub complete-spec : {M : Type 1} → statement M

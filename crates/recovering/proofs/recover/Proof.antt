@@ -10,7 +10,9 @@ use Rattle.recovering.proofs.recover.Statement.{statement}
 use Rattle.recovering.proofs.recover.Tie as tie
 
 -- the tests before the log is repeated are passed
-tested : (c : tie.Else6) → let a = c .before .before .before .before .before .before .before .before .before .before .before .before .before .before .before in Tested (a .args .work .now) (a .args .store .now) (a .args .log .now) (c .before .before .before .before .before .before .before .scan-log .result)
+tested : (c : tie.Else6) → let c7 = c .before .before .before .before .before .before .before in
+    let c15 = c7 .before .before .before .before .before .before .before .before in
+    let a = c15 in Tested (a .args .work .now) (a .args .store .now) (a .args .log .now) (c7 .scan-log .result)
 tested c =
     let form = c .before .before .before in
     let scan = c .before .before .before .before .before .before .before in
@@ -111,9 +113,11 @@ returns-7 c = search (recover-stuck!, tested (c .before .before .before .before 
 
 complete-requires : tie.Need-complete-requires
 complete-requires c κs =
+    let c5 = c .before .before .before .before .before in
+    let c10 = c5 .before .before .before .before .before in
     let t = c .before .before .before .before .before .before .before .before .before .before .before .before in
     let a = t .before .before .before .before .before .before .before .before .before .before .before .before .before .before .before in
-    recover-found 0 0 _ _ _ _ (tested t) _ (c .before .before .before .before .before .before .before .before .before .before .copy .ensures) _ _ (c .before .before .before .before .before .repeat-log .ensures) (c .before .before .if7 .left) (bytes t)
+    recover-found 0 0 _ _ _ _ (tested t) _ (c10 .copy .ensures) _ _ (c5 .repeat-log .ensures) (c .before .before .if7 .left) (bytes t)
 
 same-length-9 : tie.Need-same-length-9
 same-length-9 c = search needs
@@ -123,10 +127,14 @@ same-length-10 c = search needs
 
 returns-8 : tie.Need-returns-8
 returns-8 c =
+    let c4 = c .before .before .before .before in
+    let c7 = c4 .before .before .before in
+    let c10 = c7 .before .before .before in
+    let c15 = c10 .before .before .before .before .before in
     let t = c .before .before .before .before .before .before .before .before .before .before .before .before .before .before .before .before .before in
     let a = t .before .before .before .before .before .before .before .before .before .before .before .before .before .before .before in
-    let left-there = c .before .before .before .before .complete .ensures (a .args .work .now) (a .args .store .now) in
-    recover-goes _ _ _ _ _ _ (tested t) _ (c .before .before .before .before .before .before .before .before .before .before .before .before .before .before .before .copy .ensures) _ _ (c .before .before .before .before .before .before .before .before .before .before .repeat-log .ensures) (c .before .before .before .before .before .before .before .if7 .left) _ left-there
+    let left-there = c4 .complete .ensures (a .args .work .now) (a .args .store .now) in
+    recover-goes _ _ _ _ _ _ (tested t) _ (c15 .copy .ensures) _ _ (c10 .repeat-log .ensures) (c7 .if7 .left) _ left-there
 
 pub recover-spec : {M : Type 1} → statement M
 recover-spec =

@@ -8,13 +8,16 @@ use Rattle.log.specs.Steps.{stepOf}
 use Rattle.log.proofs.Toward.{turned-ok}
 use Rattle.forward.specs.Appends.{nextStep}
 use Rattle.forward.proofs.Stands.{begin-room, begin-ok, step-read}
-use Rattle.stepping.proofs.Steps.{step-no-work, step-no-log, step-no-form, step-no-unit, Past, past-opened, past-stands, past-target, step-no-page, Stepped, went-on, end-is, step-stops, step-steps}
+use Rattle.stepping.proofs.Steps.{step-no-work, step-no-log, step-no-form, step-no-unit, Past, past-opened, past-stands, past-target}
+use Rattle.stepping.proofs.Steps.{step-no-page, Stepped, went-on, end-is, step-stops, step-steps}
 use borrow.Author.Needs.{needs}
 use Rattle.stepping.proofs.step.Statement.{statement}
 use Rattle.stepping.proofs.step.Tie as tie
 
 -- past test 2, where a unit is open
-past : (c : tie.Else4) → Past (c .before .before .before .before .before .before .before .before .before .before .before .args .n .used) (c .before .before .before .before .before .before .before .before .before .before .before .args .n .forced) (c .before .before .before .before .before .before .before .before .before .before .before .args .work .now) (c .before .before .before .before .before .before .before .before .before .before .before .args .log .now) (c .before .before .before .before .before .scan-log .result)
+past : (c : tie.Else4) → let c5 = c .before .before .before .before .before in
+    let c11 = c5 .before .before .before .before .before .before in
+    Past (c11 .args .n .used) (c11 .args .n .forced) (c11 .args .work .now) (c11 .args .log .now) (c5 .scan-log .result)
 past c =
     let k = c .before .before .before in
     let e = k .before .before .before .before in
@@ -30,11 +33,16 @@ past c =
     }
 
 -- the unit's next step
-next-step : (c : tie.After-step-at) → nextStep (c .before .before .before .before .before .before .before .before .before .before .before .before .before .before .before .args .log .now) (c .before .before .before .before .before .before .before .before .before .scan-log .result .walk) ≡ stepOf (c .step-at .result)
+next-step : (c : tie.After-step-at) → let c9 = c .before .before .before .before .before .before .before .before .before in
+    let c15 = c9 .before .before .before .before .before .before in
+    nextStep (c15 .args .log .now) (c9 .scan-log .result .walk) ≡ stepOf (c .step-at .result)
 next-step c = step-read _ _ _ (c .step-at .ensures)
 
 -- the step was made
-made : (c : tie.Else6) → Stepped (c .before .before .before .before .before .before .before .before .before .before .before .before .before .before .before .before .before .before .before .before .before .before .before .before .before .args .work .now) (c .before .before .before .before .before .before .before .before .before .before .before .before .before .before .before .before .before .before .before .before .before .before .before .before .before .args .log .now) (c .before .before .before .before .before .before .before .before .before .before .before .before .before .before .before .before .before .before .before .scan-log .result .walk) (c .before .before .before .before .before .append .last .0) (c .before .before .before .before .before .append .last .1 .0)
+made : (c : tie.Else6) → let c5 = c .before .before .before .before .before in
+    let c19 = c5 .before .before .before .before .before .before .before .before .before .before .before .before .before .before in
+    let c25 = c19 .before .before .before .before .before .before in
+    Stepped (c25 .args .work .now) (c25 .args .log .now) (c19 .scan-log .result .walk) (c5 .append .last .0) (c5 .append .last .1 .0)
 made c =
     let x = c .before .before .before .before .before .before .before .before .before .before in
     let p = past (x .before .before .before .before) in
@@ -68,7 +76,8 @@ returns-3 : tie.Need-returns-3
 returns-3 c =
     let k = c .before .before in
     let e = k .before .before .before in
-    step-no-form _ _ _ _ _ _ _ (c .kept3 .ensures) (e .before .if1 .left) (e .if2 .left) _ (k .before .scan-log .ensures) (sym (k .knows .ensures) ∙ not-true _ (c .before .if3 .taken))
+    step-no-form _ _ _ _ _ _ _ (c .kept3 .ensures) (e .before .if1 .left) (e .if2 .left) _ (k .before .scan-log .ensures)
+    (sym (k .knows .ensures) ∙ not-true _ (c .before .if3 .taken))
 
 kept-requires-4 : tie.Need-kept-requires-4
 kept-requires-4 c κs = search needs
@@ -81,7 +90,8 @@ returns-4 c =
     let h = c .before .before .before .before in
     let k = h .before in
     let e = k .before .before .before in
-    step-no-unit _ _ _ _ _ _ _ (c .kept4 .ensures) (e .before .if1 .left) (e .if2 .left) _ (k .before .scan-log .ensures) (sym (k .knows .ensures) ∙ not-false _ (h .if3 .left)) (not-true _ (c .before .if4 .taken))
+    step-no-unit _ _ _ _ _ _ _ (c .kept4 .ensures) (e .before .if1 .left) (e .if2 .left) _ (k .before .scan-log .ensures)
+    (sym (k .knows .ensures) ∙ not-false _ (h .if3 .left)) (not-true _ (c .before .if4 .taken))
 
 sub-step-at : tie.Need-sub-step-at
 sub-step-at c = omega (arith, begin-room (past-stands (past (c .before))))
@@ -131,7 +141,8 @@ returns-6 c =
     let a = c .before .before .before .before .before .before in
     let e = a .before .before .before in
     let x = e .before .before in
-    step-stops (past (x .before .before .before .before)) _ (next-step x) _ (e .before .target-formed .ensures) (e .if5 .left) _ _ _ (a .append .ensures) (c .before .if6 .taken) _ _ _ (c .kept6 .ensures)
+    step-stops (past (x .before .before .before .before)) _ (next-step x) _ (e .before .target-formed .ensures) (e .if5 .left) _ _ _ (a .append .ensures)
+    (c .before .if6 .taken) _ _ _ (c .kept6 .ensures)
 
 past-requires : tie.Need-past-requires
 past-requires c κs = let m = made (c .before) in (m .ready, turned-ok _ _ (m .state) (m .shows))

@@ -56,7 +56,7 @@ abbrev Fitting : (c : Check) (l : List Rec) (w : List ℕ) (g : Begin) → Type 
 Fitting c l w g =
     (stateOf c l .at + (size (LB g) + room w (plan g)) ≤ logLength) × (stateOf c l .number + (1 + length (plan g)) ≤ most4) × (g .unit ≤ most4)
 
-module _ (rs : List (List ℕ)) (U : UnitLaws store (asked rs)) (d : Lent) (v : Live rs d) where
+module _ (rs : List (List ℕ)) (U : UnitLaws store (asked rs)) {origin : List ℕ} (d : Lent) (v : Live rs origin d) where
   -- ---- begin
 
   begin-is : (g : Begin) (choose : ℕ → List (List ℕ) → Option Begin) → length (todoOf (stateOf (v .top) (v .recs) .opened)) ≡ 0
@@ -100,10 +100,9 @@ abbrev pub ran : (o : List ℕ) (c : Check) (w : List ℕ) (l : List Rec) → Le
 ran o c w l = lent (stateOf c l .at) 24 w o (image c l) []
 
 module _ (rs : List (List ℕ)) (U : UnitLaws store (asked rs)) (o : List ℕ) (c : Check) (g : Settled store (asked rs) o c []) where
-  abbrev live-ran : (w : List ℕ) (l : List Rec) → Replay.Uncut store (asked rs) o c w l → Live rs (ran o c w l)
+  abbrev live-ran : (w : List ℕ) (l : List Rec) → Replay.Uncut store (asked rs) o c w l → Live rs o (ran o c w l)
   live-ran w l u =
       record {
-        origin = o;
         top = c;
         recs = l;
         many = 0;

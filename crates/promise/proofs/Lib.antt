@@ -7,6 +7,7 @@ pub mod Image
 pub mod Forward
 pub mod Recovering
 pub mod Live
+pub mod Refused
 pub mod Called
 pub mod Accepted
 pub mod Starts

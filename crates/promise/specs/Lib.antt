@@ -2,3 +2,4 @@
 pub mod Rows
 pub mod Parts
 pub mod Promise
+pub mod Fixed

@@ -40,22 +40,23 @@ use Rattle.promise.proofs.Standing.{last-fits}
 use Rattle.promise.proofs.Refused.{refused-now}
 use Rattle.promise.proofs.Live.{Live, live-room, image-bare, stored-of, stored, work-pages, two-sized, known-live, live-grown}
 
--- a state that a call leaves is the one that it was lent
-pub live-same : {rs : List (List ℕ)} {origin : List ℕ} {d : Lent} (x : Left) → x .now ≡ d → Live rs origin d → Live rs origin (x .now)
-live-same {rs} {origin} x e v = subst (Live rs origin) (sym e) v
+module _ {rs : List (List ℕ)} {origin : List ℕ} {d : Lent} where
+  -- a state that a call leaves is the one that it was lent
+  pub live-same : (x : Left) → x .now ≡ d → Live rs origin d → Live rs origin (x .now)
+  live-same x e v = subst (Live rs origin) (sym e) v
 
--- by a test: refused, or on
-by-test : {rs : List (List ℕ)} {origin : List ℕ} {d : Lent} (b : Bool) (k r : ℕ) (y : Left) → Live rs origin d → (b ≡ true → Live rs origin (y .now)) → Live rs origin (need b (refused k r d) y .now)
-unfolding need
-by-test true k r y v f = f refl
-by-test {d = d} false k r y v f = live-same (refused k r d) (refused-now k r d) v
+  -- by a test: refused, or on
+  by-test : (b : Bool) (k r : ℕ) (y : Left) → Live rs origin d → (b ≡ true → Live rs origin (y .now)) → Live rs origin (need b (refused k r d) y .now)
+  unfolding need
+  by-test true k r y v f = f refl
+  by-test false k r y v f = live-same (refused k r d) (refused-now k r d) v
 
--- by a value
-by-value : {A : Type 0} {rs : List (List ℕ)} {origin : List ℕ} {d : Lent} (o : Option A) (k r : ℕ) (y : A → Left) → Live rs origin d → ((a : A) → o ≡ some a → Live rs origin (y a .now))
-    → Live rs origin (given o (refused k r d) y .now)
-unfolding given
-by-value {d = d} none k r y v f = live-same (refused k r d) (refused-now k r d) v
-by-value (some a) k r y v f = f a refl
+  -- by a value
+  by-value : {A : Type 0} (o : Option A) (k r : ℕ) (y : A → Left) → Live rs origin d → ((a : A) → o ≡ some a → Live rs origin (y a .now))
+      → Live rs origin (given o (refused k r d) y .now)
+  unfolding given
+  by-value none k r y v f = live-same (refused k r d) (refused-now k r d) v
+  by-value (some a) k r y v f = f a refl
 
 pub not-there : {A : Type 0} (o : Option A) → not (there o) ≡ true → o ≡ none
 unfolding there

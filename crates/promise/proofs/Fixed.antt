@@ -16,7 +16,8 @@ use Rattle.store.specs.Calls.{Left}
 use Rattle.promise.specs.Fixed.{Result, replied, recovered, found, listed, Fixes, Fixed}
 
 -- what can be read back is fixed
-fixes : {A : Type 0} (shown : Result A → Left) (back : Left → Result A) → ((x : Result A) → back (shown x) ≡ x) → (means : Left) → Fixes shown means
+fixes : {A : Type 0} (shown : Result A → Left) (back : Left → Result A) → ((x : Result A) → back (shown x) ≡ x)
+    → (means : Left) → Fixes shown means
 fixes shown back h means x y e f = sym (h x) ∙ ap back (e ∙ sym f) ∙ h y
 
 -- the numbers, and the struct beside the buffers, read back
@@ -26,11 +27,6 @@ numbers z = record { used = z .now .used; forced = z .now .forced }
 abbrev buffers : {A : Type 0} → (Left → A) → Left → Result A
 buffers answer z =
     record { answer = answer z; work = z .now .work; store = z .now .store; log = z .now .log; bytes = z .now .bytes }
-
-one-is : (b : Bool) → eqb (pick b 1 0) 1 ≡ b
-unfolding pick
-one-is true = refl
-one-is false = refl
 
 fixes-reply : (means : Left) → Fixes replied means
 fixes-reply = fixes replied (buffers (λ z. record { reply = z .reply; numbers = numbers z })) (λ x. refl)
@@ -42,7 +38,15 @@ fixes-recovered =
 fixes-found : (means : Left) → Fixes found means
 fixes-found = fixes found (buffers (λ z. record { found = record { reply = z .reply; value = z .values }; numbers = numbers z })) (λ x. refl)
 
--- whether more remain is 1 or 0 in what is shown
+-- whether more remain is shown as 1 or 0
+one-is : (b : Bool) → eqb (pick b 1 0) 1 ≡ b
+unfolding pick
+one-is true = refl
+one-is false = refl
+
+more-is : (x : Result ListAnswer) → eqb (getD (listed x .values) 1 0) 1 ≡ x .answer .listed .more
+more-is x = one-is (x .answer .listed .more)
+
 fixes-listed : (means : Left) → Fixes listed means
 fixes-listed =
     fixes listed
@@ -50,7 +54,7 @@ fixes-listed =
       listed = record { reply = z .reply; count = getD (z .values) 0 0; more = eqb (getD (z .values) 1 0) 1 };
       numbers = numbers z;
     }))
-    (λ x. rw (one-is (x .answer .listed .more)) refl)
+    (λ x. rw (more-is x) refl)
 
 pub fixed : Fixed
 fixed =

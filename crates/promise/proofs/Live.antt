@@ -59,7 +59,8 @@ live-lost {d = d} v =
     }
 
 -- nothing is said of list's room
-pub live-room : {rs : List (List ℕ)} {origin : List ℕ} {d : Lent} (b : List ℕ) → Live rs origin d → Live rs origin (lent (d .used) (d .forced) (d .work) (d .store) (d .log) b)
+pub live-room : {rs : List (List ℕ)} {origin : List ℕ} {d : Lent} (b : List ℕ) → Live rs origin d
+    → Live rs origin (lent (d .used) (d .forced) (d .work) (d .store) (d .log) b)
 live-room b v =
     record {
       top = v .top;

@@ -17,3 +17,4 @@ pub mod Replies
 pub mod OnUnits
 pub mod Demand3
 pub mod Fixed
+pub mod Contracts

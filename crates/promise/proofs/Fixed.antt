@@ -1,17 +1,12 @@
 -- The contracts fix their results: a result can be read back from what the contracts show of it, so that nothing of it is left open. Assumes
 -- nothing.
-use Prim.Native.Nat.{ℕ}
 use mathlib.Core.Path.{_≡_, refl, sym, ap, _∙_}
 use mathlib.Core.Bool.{Bool, true, false}
-use mathlib.Core.List.{List, []}
 use lib.ListN.{getD}
 use lib.Dec.{eqb}
 use Rattle.field.specs.Test.{pick}
 use Rattle.store.specs.declared.known.Numbers.{Numbers}
-use Rattle.store.specs.declared.known.Answer.{Answer}
-use Rattle.store.specs.declared.looking.FindAnswer.{FindAnswer}
 use Rattle.store.specs.declared.listing.ListAnswer.{ListAnswer}
-use Rattle.forward.specs.declared.recovering.RecoverAnswer.{RecoverAnswer}
 use Rattle.store.specs.Calls.{Left}
 use Rattle.promise.specs.Fixed.{Result, replied, recovered, found, listed, Fixes, Fixed}
 

@@ -1,23 +1,20 @@
 -- Every state of a history is live or lost in the sense of Live.antt; so recovery keeps what is promised. Assumes nothing but the unit laws
 -- and what is known of a finished build, which are handed in.
-use Prim.Native.Nat.{ℕ, suc, _+_, _-_, _*_, _/_, _≤_}
+use Prim.Native.Nat.{ℕ, _+_, _-_, _/_, _≤_}
 use native.Mathlib.Omega.{arith}
 use mathlib.Core.Path.{_≡_, refl, sym, ap, ap₂, _∙_, subst}
 use mathlib.Core.Bool.{Bool, true, false}
 use mathlib.Core.List.{List, [], _∷_, _++_}
 use mathlib.Core.Option.{Option, some, none, Option·some-injective}
-use lib.ListN.{length, take, getD, length-append, length-drop}
+use lib.ListN.{length, take, length-append, length-drop}
 use lib.Seq.{take-length, take-append-le, take-take, length-take-le}
-use lib.Dec.{eqb}
-use Rattle.field.specs.Test.{pick}
 use Rattle.field.specs.Bytes.{Bytes, zeroes}
 use Rattle.page.specs.Page.{rowsOf}
 use Rattle.page.specs.Pages.{pages, allFormed}
 use Rattle.page.proofs.Pages.{formed-pages}
 use Rattle.log.specs.Record.{Check, Begin, Rec}
-use Rattle.log.specs.Plan.{Step, takeOut, bringIn, point, close, gather, removals, others, replacing, compactPlan, movePlan, swapPlan, plan}
+use Rattle.log.specs.Plan.{close, plan}
 use Rattle.log.specs.Log.{Open, beginOk, readLog}
-use Rattle.log.proofs.Begin.{beginOk-limits}
 use Rattle.log.proofs.State.{sizes, at-atEnd}
 use Rattle.log.proofs.Valid.{Good}
 use Rattle.log.proofs.Sound.{Waits, waits-open, awaits-todo, sound-atEnd}
@@ -26,9 +23,9 @@ use Rattle.field.proofs.Part.{split}
 use Rattle.store.specs.Calls.{Lent, lent, Left, left, threeSized, logLength, todoOf}
 use Rattle.store.specs.Calls as Calls
 use Rattle.replay.specs.Store.{Reached, Recovers}
-use Rattle.replay.specs.Store as Replay
 use Rattle.replay.specs.Laws.{UnitLaws}
 use Rattle.replay.proofs.Theorem.{theorem, origin-settled}
+use Rattle.unit.proofs.Rooms.{Plan, plan-body}
 use Rattle.promise.specs.Parts.{logOf, stateOf, store, asked}
 use Rattle.promise.specs.Promise.{Call, toBeginCompact, toBeginOrder, toStep, toFlush, toForce, toCheckpoint, toFind, toList, does, since, Cut, History, Kept}
 use Rattle.promise.proofs.OnPages.{page-laws}
@@ -43,71 +40,10 @@ use Rattle.promise.proofs.Rests.{find-rests}
 
 -- ---- a unit has 25 steps after its begin record at most
 
-length-gather : (dest : ℕ) (ps : List ℕ) → length (gather dest ps) ≤ 2 * length ps
-unfolding gather
-length-gather dest [] = omega arith
-length-gather dest (p ∷ ps) = by-pick (eqb p dest) (gather dest ps) (length-gather dest ps)
-  where
-    by-pick : (b : Bool) (ts : List Step) → length ts ≤ 2 * length ps → length (pick b ts (takeOut p dest ∷ bringIn p dest 1 ∷ ts)) ≤ 2 * suc (length ps)
-    by-pick true ts h = unfold pick in omega arith
-    by-pick false ts h = unfold pick in omega arith
-
-length-removals : (base : ℕ) (ps : List ℕ) → length (removals base ps) ≡ length ps
-unfolding removals
-length-removals base [] = refl
-length-removals base (p ∷ ps) = ap suc (length-removals base ps)
-
-length-others : (ps : List ℕ) → length (others ps) ≤ length ps - 1
-unfolding others
-length-others [] = omega arith
-length-others (p ∷ ps) = omega arith
-
-length-replacing : (base c dest : ℕ) → length (replacing base c dest) ≤ 1
-unfolding replacing
-length-replacing base c dest = by-pick (eqb c dest)
-  where
-    by-pick : (b : Bool) → length (pick b [] (point base c dest false ∷ [])) ≤ 1
-    by-pick true = unfold pick in omega arith
-    by-pick false = unfold pick in omega arith
-
-length-compact : (base dest : ℕ) (ls : List ℕ) → length ls ≤ 8 → length (compactPlan base dest ls) ≤ 24
-unfolding compactPlan
-length-compact base dest ls h =
-    rw (
-      length-append (gather dest ls) (replacing base (getD ls 0 0) dest ++ removals base (others ls)),
-      length-append (replacing base (getD ls 0 0) dest) (removals base (others ls)),
-      length-removals base (others ls),
-    )
-    (omega (arith, length-gather dest ls, length-replacing base (getD ls 0 0) dest, length-others ls))
-
-length-move : (p a b : ℕ) → length (movePlan p a b) ≤ 24
-unfolding movePlan
-length-move p a b = omega arith
-
-length-swap : (p q a b : ℕ) → length (swapPlan p q a b) ≤ 24
-unfolding swapPlan
-length-swap p q a b = omega arith
-
-pick-length : (t : Bool) (x y : List Step) → length x ≤ 24 → length y ≤ 24 → length (pick t x y) ≤ 24
-unfolding pick
-pick-length true x y h k = h
-pick-length false x y h k = k
-
-pub length-plan : (g : Begin) → beginOk g ≡ true → length (plan g) ≤ 25
-unfolding plan
+length-plan : (g : Begin) → beginOk g ≡ true → length (plan g) ≤ 25
 length-plan g e =
-    let l : length (g .leaves) ≤ 8 = beginOk-limits g e .leaves in
-    let p : ℕ = getD (g .bases) 0 0 in
-    let q : ℕ = getD (g .bases) 1 p in
-    let a : ℕ = getD (g .leaves) 0 0 in
-    let b : ℕ = getD (g .leaves) 1 0 in
-    let xs : List Step =
-    pick (eqb (g .type) 1) (compactPlan p (g .dest) (g .leaves)) (pick (eqb (g .type) 2) (swapPlan p q a b) (movePlan p a (g .dest))) in
-    let n : length xs ≤ 24 =
-    pick-length (eqb (g .type) 1) (compactPlan p (g .dest) (g .leaves)) (pick (eqb (g .type) 2) (swapPlan p q a b) (movePlan p a (g .dest)))
-    (length-compact p (g .dest) (g .leaves) l)
-    (pick-length (eqb (g .type) 2) (swapPlan p q a b) (movePlan p a (g .dest)) (length-swap p q a b) (length-move p a (g .dest))) in
-    rw (length-append xs (close (g .unit) ∷ [])) (omega arith)
+    let p : Plan g = plan-body g e in
+    rw (p .is, length-append (p .body) (close (g .unit) ∷ [])) (omega (arith, p .of .few))
 
 waits-few : {u : ℕ} (o : Option Open) → Waits u o → length (todoOf o) ≤ 25
 unfolding todoOf

@@ -14,6 +14,7 @@ use Rattle.log.specs.Log.{Open, readLog}
 use Rattle.unit.specs.Choice.{orderUnit}
 use Rattle.store.specs.Calls.{Lent, Left, refused, begun, beginWith}
 use Rattle.store.specs.Calls as Calls
+use Rattle.store.proofs.Refusals.{reply-refused}
 use Rattle.replay.specs.Store.{Settled}
 use Rattle.replay.specs.Laws.{UnitLaws}
 use Rattle.replay.proofs.Theorem.{step-accepted}
@@ -31,10 +32,6 @@ spared-zero x e = record { log = λ q. omega arith; form = λ q. omega arith; ch
 other : (k r : ℕ) (d : Lent) → (r ≡ 2 → ⊥) → (r ≡ 3 → ⊥) → (r ≡ 5 → ⊥) → (r ≡ 8 → ⊥) → Spared (refused k r d)
 unfolding refused
 other k r d a b c e = record { log = a; form = b; change = c; tree = e }
-
-reply-refused : (k r : ℕ) (d : Lent) → refused k r d .reply ≡ r
-unfolding refused
-reply-refused k r d = refl
 
 spared-test : (b : Bool) (x y : Left) → Spared x → Spared y → Spared (need b x y)
 unfolding need
@@ -97,7 +94,7 @@ module _ (rs : List (List ℕ)) (U : UnitLaws store (asked rs)) {origin : List �
   -- a step is accepted where a unit is open, and there is nothing to do otherwise
   step-replies : (o : Option Open) → stateOf (v .top) (v .recs) .opened ≡ o → Calls.step d .reply ≡ pick (there o) 0 10
   unfolding pick there
-  step-replies none e = ap (λ (x : Left). x .reply) (step-none rs U d v e) ∙ reply-refused 0 10 d
+  step-replies none e = ap (λ (x : Left). x .reply) (step-none rs U d v e) ∙ reply-refused 0 d 10
   step-replies (some o) e =
       let (k, z) = open-left rs U d v o e in
       let (r, w′, next, applies, fewer) = step-accepted store (asked rs) (page-laws rs) U (v .reached) z in

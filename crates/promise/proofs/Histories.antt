@@ -164,7 +164,7 @@ module _ (rs : List (List ℕ)) (U : UnitLaws store (asked rs)) where
   roomy : {origin : List ℕ} {d : Lent} {forced : ℕ} {on : Bool} (b : List ℕ) → Holds origin d forced on
       → Holds origin (lent (d .used) (d .forced) (d .work) (d .store) (d .log) b) forced on
   roomy b (alive v e) = alive (live-room b v) e
-  roomy b (gone v) = gone (lost-room b v)
+  roomy {d = d} b (gone v) = gone (lost-room (d .work) b v)
 
   module _ (B : (f g : ℕ) (d : Lent) → Bytes (d .bytes) → Calls.build f g d .reply ≡ 0 → rs ≡ rowsOf 16 (length (d .bytes) / 16) (d .bytes)
       → Live rs (Calls.build f g d .now .work) (Calls.build f g d .now) × (24 ≡ Calls.build f g d .now .forced)) where
@@ -179,6 +179,7 @@ module _ (rs : List (List ℕ)) (U : UnitLaws store (asked rs)) where
     holds (History.recovery {o = origin} {d = d} {forced = forced} h e) = alive (recovery-live origin d forced (lost-of (holds h)) (recover-lengths d e)) refl
     holds (History.unsized {o = origin} {d = d} {forced = forced} {on = on} h e) =
         subst (λ (x : Lent). Holds origin x forced on) (sym (unsized-now d e)) (holds h)
+    holds (History.mislent {d = d} e h same sized bad) = gone (lost-room (Calls.recover e .now .work) (d .bytes) (lost-of (holds h)))
     holds (History.lentRoom b h) = roomy b (holds h)
 
     pub kept-in : (o : List ℕ) (d : Lent) (forced : ℕ) (on : Bool) → History rs o d forced on → threeSized d ≡ true → Kept rs o d

@@ -1,4 +1,4 @@
--- The rows hold; and demand 3, from the generic half and the units.
+-- The rows hold; demand 3, from the generic half and the units; and that the contracts fix their results.
 pub mod Computed
 pub mod RowsHold
 pub mod Standing
@@ -11,8 +11,8 @@ pub mod Refused
 pub mod Called
 pub mod Accepted
 pub mod Starts
-pub mod Histories
 pub mod Rests
+pub mod Histories
 pub mod Replies
 pub mod OnUnits
 pub mod Demand3

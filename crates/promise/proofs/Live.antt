@@ -71,9 +71,10 @@ live-room b v =
       numbered = record { used = v .numbered .used; forced = v .numbered .forced; among = v .numbered .among };
     }
 
-pub lost-room : {rs : List (List ℕ)} {origin : List ℕ} {d : Lent} {forced : ℕ} (b : List ℕ) → Lost rs origin d forced
-    → Lost rs origin (lent (d .used) (d .forced) (d .work) (d .store) (d .log) b) forced
-lost-room b v =
+-- nor, where the work pages may be gone, of what stands there
+pub lost-room : {rs : List (List ℕ)} {origin : List ℕ} {d : Lent} {forced : ℕ} (w b : List ℕ) → Lost rs origin d forced
+    → Lost rs origin (lent (d .used) (d .forced) w (d .store) (d .log) b) forced
+lost-room w b v =
     record {
       work = v .work;
       top = v .top;

@@ -96,6 +96,10 @@ pub data History (rs : List (List ℕ)) : (o : List ℕ) (d : Lent) (forced : �
   -- a recovery that is refused because a buffer has the wrong length
   unsized : {o : List ℕ} {d : Lent} {forced : ℕ} {on : Bool} → History rs o d forced on → threeSized d ≡ false
       → History rs o (recover d .now) forced on
+  -- a recovery that is lent these work pages beside some other store or log, and is refused past its lengths: the work pages are lost
+  mislent : {o : List ℕ} {d : Lent} {forced : ℕ} {on : Bool} (e : Lent) → History rs o d forced on → e .work ≡ d .work
+      → threeSized e ≡ true → (recover e .reply ≡ 0 → ⊥)
+      → History rs o (lent (d .used) (d .forced) (recover e .now .work) (d .store) (d .log) (d .bytes)) forced false
   -- list may be lent any room
   lentRoom : {o : List ℕ} {d : Lent} {forced : ℕ} {on : Bool} (b : List ℕ) → History rs o d forced on
       → History rs o (lent (d .used) (d .forced) (d .work) (d .store) (d .log) b) forced on
@@ -103,7 +107,7 @@ pub data History (rs : List (List ℕ)) : (o : List ℕ) (d : Lent) (forced : �
 -- ---- refused calls
 
 -- a refused call leaves all that it was lent, whatever that is: so a call that is lent some buffers of a history and some others, and is refused,
--- is no event of that history. A recovery refused past its lengths leaves all but the work pages, as a cut does that loses nothing of the log
+-- is no event of that history. A recovery refused past its lengths leaves all but the work pages
 pub record Refusals : Type 0 where
   pub calls : (k : Call) (d : Lent) → (does k d .reply ≡ 0 → ⊥) → does k d .now ≡ d
   pub building : (f g : ℕ) (d : Lent) → (build f g d .reply ≡ 0 → ⊥) → build f g d .now ≡ d

@@ -4,7 +4,8 @@ use Prim.Native.Nat.{ℕ}
 use mathlib.Core.Path.{_≡_, refl, ap, _∙_}
 use mathlib.Core.Bool.{false}
 use Rattle.store.specs.Calls.{Lent, lent, Left, refused, zeroed, pagesLength, threeSized, recover}
-use Rattle.store.proofs.Refusals.{Keeps, build-keeps, begin-compact-keeps, begin-order-keeps, step-keeps, flush-keeps, force-keeps, checkpoint-keeps, find-keeps, list-keeps, recover-sized, recover-unsized}
+use Rattle.store.proofs.Refusals.{Keeps, build-keeps, begin-compact-keeps, begin-order-keeps, step-keeps, flush-keeps, force-keeps}
+use Rattle.store.proofs.Refusals.{checkpoint-keeps, find-keeps, list-keeps, recover-sized, recover-unsized}
 use Rattle.field.specs.Bytes.{zeroes}
 use Rattle.promise.specs.Promise.{Call, toBeginCompact, toBeginOrder, toStep, toFlush, toForce, toCheckpoint, toFind, toList, does, Refusals}
 

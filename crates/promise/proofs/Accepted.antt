@@ -4,12 +4,10 @@ use Prim.Native.Nat.{ℕ, _+_, _-_, _≤_}
 use native.Mathlib.Omega.{arith}
 use mathlib.Core.Path.{_≡_, refl, sym, ap, ap₂, _∙_, subst, subst₂}
 use mathlib.Core.Logic.{_⊎_, ⊎-elim}
-use mathlib.Core.Bool.{true, not}
 use mathlib.Core.List.{List, [], _∷_, _++_}
 use mathlib.Core.Option.{Option, some, none, Option·some-injective}
 use lib.ListN.{length, take}
 use borrow.Author.Tests.{le-leb}
-use Rattle.field.specs.Test.{there}
 use Rattle.field.specs.Bytes.{put, most4}
 use Rattle.field.proofs.Test.{both-intro, need-true, given-some}
 use Rattle.page.specs.Pages.{pages}
@@ -24,6 +22,7 @@ use Rattle.unit.specs.Choice.{compactUnit, orderUnit}
 use Rattle.unit.specs.Next.{apply, room}
 use Rattle.store.specs.Calls.{Lent, lent, Left, left, refused, todoOf, begun, beginWith, logLength}
 use Rattle.store.specs.Calls as Calls
+use Rattle.store.proofs.Chain.{not-there}
 use Rattle.replay.specs.Store.{Settled}
 use Rattle.replay.specs.Store as Replay
 use Rattle.replay.specs.Laws.{UnitLaws}
@@ -42,10 +41,6 @@ unfolding todoOf
 open-none none w e = refl
 open-none (some o) w e = let t : Some (o .todo) = ending-some (waits-open w .todo) in absurd (omega (arith, ap length (t .is)))
 
-not-there-none : {A : Type 0} (o : Option A) → o ≡ none → not (there o) ≡ true
-unfolding there
-not-there-none o e = rw e
-
 -- the state after one record more
 abbrev grownBy : (d : Lent) (c : Check) (l : List Rec) (r : Rec) (w′ : List ℕ) → Lent
 grownBy d c l r w′ =
@@ -56,7 +51,7 @@ abbrev Fitting : (c : Check) (l : List Rec) (w : List ℕ) (g : Begin) → Type 
 Fitting c l w g =
     (stateOf c l .at + (size (LB g) + room w (plan g)) ≤ logLength) × (stateOf c l .number + (1 + length (plan g)) ≤ most4) × (g .unit ≤ most4)
 
-module _ (rs : List (List ℕ)) (U : UnitLaws store (asked rs)) (d : Lent) (v : Live rs d) where
+module _ (rs : List (List ℕ)) (U : UnitLaws store (asked rs)) {origin : List ℕ} (d : Lent) (v : Live rs origin d) where
   -- ---- begin
 
   begin-is : (g : Begin) (choose : ℕ → List (List ℕ) → Option Begin) → length (todoOf (stateOf (v .top) (v .recs) .opened)) ≡ 0
@@ -67,7 +62,7 @@ module _ (rs : List (List ℕ)) (U : UnitLaws store (asked rs)) (d : Lent) (v : 
       let s : Settled store (asked rs) (d .work) (v .top) (v .recs) = work-settled store (asked rs) (page-laws rs) U (v .reached) z in
       let o : stateOf (v .top) (v .recs) .opened ≡ none =
       open-none (stateOf (v .top) (v .recs) .opened) (sound-atEnd (logOf (v .top) (v .recs)) (stored rs U d v .good) .waits) z in
-      need-true _ (refused 0 9 d) _ (not-there-none (stateOf (v .top) (v .recs) .opened) o)
+      need-true _ (refused 0 9 d) _ (not-there (stateOf (v .top) (v .recs) .opened) o)
       ∙ need-true _ (refused 0 3 d) _ (formed-pages (d .work) (s .formed .form))
       ∙ need-true _ (refused 0 8 d) _ (s .fine .0)
       ∙ given-some _ g (refused 0 11 d) _ e
@@ -100,10 +95,9 @@ abbrev pub ran : (o : List ℕ) (c : Check) (w : List ℕ) (l : List Rec) → Le
 ran o c w l = lent (stateOf c l .at) 24 w o (image c l) []
 
 module _ (rs : List (List ℕ)) (U : UnitLaws store (asked rs)) (o : List ℕ) (c : Check) (g : Settled store (asked rs) o c []) where
-  abbrev live-ran : (w : List ℕ) (l : List Rec) → Replay.Uncut store (asked rs) o c w l → Live rs (ran o c w l)
+  abbrev live-ran : (w : List ℕ) (l : List Rec) → Replay.Uncut store (asked rs) o c w l → Live rs o (ran o c w l)
   live-ran w l u =
       record {
-        origin = o;
         top = c;
         recs = l;
         many = 0;

@@ -8,9 +8,9 @@ use mathlib.Core.List.{List, [], _∷_, _++_}
 use mathlib.Core.Option.{Option, some, none}
 use lib.ListN.{length, take}
 use lib.Seq.{take-length}
-use lib.Dec.{leb}
+use lib.Dec.{eqb, leb}
 use borrow.Author.Tests.{leb-true, ltb-true}
-use Rattle.field.specs.Test.{need, given, there}
+use Rattle.field.specs.Test.{pick, need, given, there}
 use Rattle.field.specs.Bytes.{put, most4}
 use Rattle.field.proofs.Test.{both-1, both-2, need-true, given-some, given-none}
 use Rattle.field.proofs.Same.{same-eq}
@@ -37,28 +37,26 @@ use Rattle.promise.proofs.OnPages.{page-laws}
 use Rattle.promise.proofs.Image.{image, put-image, at-grown, forced-image}
 use Rattle.promise.proofs.Forward.{Next, next-facts, next-at, apply-at, append-is}
 use Rattle.promise.proofs.Standing.{last-fits}
+use Rattle.promise.proofs.Refused.{refused-now}
 use Rattle.promise.proofs.Live.{Live, live-room, image-bare, stored-of, stored, work-pages, two-sized, known-live, live-grown}
 
--- a state that a call leaves is the one that it was lent
-pub live-same : {rs : List (List ℕ)} {d : Lent} (x : Left) → x .now ≡ d → Live rs d → Live rs (x .now)
-live-same {rs} x e v = subst (Live rs) (sym e) v
+module _ {rs : List (List ℕ)} {origin : List ℕ} {d : Lent} where
+  -- a state that a call leaves is the one that it was lent
+  pub live-same : (x : Left) → x .now ≡ d → Live rs origin d → Live rs origin (x .now)
+  live-same x e v = subst (Live rs origin) (sym e) v
 
-refused-now : (k r : ℕ) (d : Lent) → refused k r d .now ≡ d
-unfolding refused
-refused-now k r d = refl
+  -- by a test: refused, or on
+  by-test : (b : Bool) (k r : ℕ) (y : Left) → Live rs origin d → (b ≡ true → Live rs origin (y .now)) → Live rs origin (need b (refused k r d) y .now)
+  unfolding need
+  by-test true k r y v f = f refl
+  by-test false k r y v f = live-same (refused k r d) (refused-now k r d) v
 
--- by a test: refused, or on
-by-test : {rs : List (List ℕ)} {d : Lent} (b : Bool) (k r : ℕ) (y : Left) → Live rs d → (b ≡ true → Live rs (y .now)) → Live rs (need b (refused k r d) y .now)
-unfolding need
-by-test true k r y v f = f refl
-by-test {d = d} false k r y v f = live-same (refused k r d) (refused-now k r d) v
-
--- by a value
-by-value : {A : Type 0} {rs : List (List ℕ)} {d : Lent} (o : Option A) (k r : ℕ) (y : A → Left) → Live rs d → ((a : A) → o ≡ some a → Live rs (y a .now))
-    → Live rs (given o (refused k r d) y .now)
-unfolding given
-by-value {d = d} none k r y v f = live-same (refused k r d) (refused-now k r d) v
-by-value (some a) k r y v f = f a refl
+  -- by a value
+  by-value : {A : Type 0} (o : Option A) (k r : ℕ) (y : A → Left) → Live rs origin d → ((a : A) → o ≡ some a → Live rs origin (y a .now))
+      → Live rs origin (given o (refused k r d) y .now)
+  unfolding given
+  by-value none k r y v f = live-same (refused k r d) (refused-now k r d) v
+  by-value (some a) k r y v f = f a refl
 
 pub not-there : {A : Type 0} (o : Option A) → not (there o) ≡ true → o ≡ none
 unfolding there
@@ -123,7 +121,7 @@ pub apply-begin : (n : ℕ) (g : Begin) (w : List ℕ) → apply n (LB g) w ≡ 
 unfolding apply target changedAt
 apply-begin n g w = refl
 
-module _ (rs : List (List ℕ)) (U : UnitLaws store (asked rs)) (d : Lent) (v : Live rs d) where
+module _ (rs : List (List ℕ)) (U : UnitLaws store (asked rs)) {origin : List ℕ} (d : Lent) (v : Live rs origin d) where
   -- between two units the work pages are a well-formed tree in form
   pub settled : stateOf (v .top) (v .recs) .opened ≡ none → Settled store (asked rs) (d .work) (v .top) (v .recs)
   settled e = work-settled store (asked rs) (page-laws rs) U (v .reached) (none-left (stateOf (v .top) (v .recs) .opened) e)
@@ -131,7 +129,7 @@ module _ (rs : List (List ℕ)) (U : UnitLaws store (asked rs)) (d : Lent) (v : 
   -- ---- begin
 
   pub begun-live : (g : Begin) → stateOf (v .top) (v .recs) .opened ≡ none → Chooses (stateOf (v .top) (v .recs)) (d .work) g
-      → Live rs (begun d (stateOf (v .top) (v .recs)) g .now)
+      → Live rs origin (begun d (stateOf (v .top) (v .recs)) g .now)
   unfolding begun
   begun-live g e ch =
       by-test _ 0 6 _ v (λ fits. by-test _ 0 7 _ v (λ nums.
@@ -149,19 +147,19 @@ module _ (rs : List (List ℕ)) (U : UnitLaws store (asked rs)) (d : Lent) (v : 
 
   begin-live : (choose : ℕ → List (List ℕ) → Option Begin)
       → ((g : Begin) → choose (stateOf (v .top) (v .recs) .unit + 1) (pages (d .work)) ≡ some g → Chooses (stateOf (v .top) (v .recs)) (d .work) g)
-      → Live rs (beginWith d (stateOf (v .top) (v .recs)) choose .now)
+      → Live rs origin (beginWith d (stateOf (v .top) (v .recs)) choose .now)
   unfolding beginWith
   begin-live choose ch =
       by-test _ 0 9 _ v (λ shut. by-test _ 0 3 _ v (λ form. by-test _ 0 8 _ v (λ well.
       by-value _ 0 11 _ v (λ g e. begun-live g (not-there (stateOf (v .top) (v .recs) .opened) shut) (ch g e)))))
 
-  pub begin-compact-live : (fill : ℕ) → Live rs (Calls.beginCompact fill d .now)
+  pub begin-compact-live : (fill : ℕ) → Live rs origin (Calls.beginCompact fill d .now)
   unfolding Calls.beginCompact
   begin-compact-live fill =
       by-test _ 0 1 _ v (λ sized. rw (given-some _ (logOf (v .top) (v .recs)) (refused 0 2 d) _ (known-live rs U d v))
       (by-test _ 0 12 _ v (λ ok. begin-live _ (λ g e. inl (fill, leb-true fill 15 ok, e)))))
 
-  pub begin-order-live : Live rs (Calls.beginOrder d .now)
+  pub begin-order-live : Live rs origin (Calls.beginOrder d .now)
   unfolding Calls.beginOrder
   begin-order-live =
       by-test _ 0 1 _ v (λ sized. rw (given-some _ (logOf (v .top) (v .recs)) (refused 0 2 d) _ (known-live rs U d v))
@@ -194,7 +192,7 @@ module _ (rs : List (List ℕ)) (U : UnitLaws store (asked rs)) (d : Lent) (v : 
       let n : Next x xs (stateOf (v .top) (v .recs)) (d .work) r =
       next-facts x xs (stateOf (v .top) (v .recs)) (d .work) r
       (next-at (stateOf (v .top) (v .recs)) (d .work) (todoOf (stateOf (v .top) (v .recs) .opened)) (x ∷ xs) r todo next) in
-      let h : Reached store (asked rs) (v .origin) (some w′) (d .store) (v .top) (v .recs ++ (r ∷ [])) (v .many) =
+      let h : Reached store (asked rs) origin (some w′) (d .store) (v .top) (v .recs ++ (r ∷ [])) (v .many) =
       Reached.step (v .reached) z next applies in
       let k′ : StepKeeps x = keeps-head x xs (o .todo) (t .is) (subst OpenKeeps e (end-keeps (logOf (v .top) (v .recs)) g)) in
       let f : formedAt (targetOf x) (d .work) ≡ true = formed-target x (d .work) k′ (work-pages rs U d v) in
@@ -215,13 +213,13 @@ module _ (rs : List (List ℕ)) (U : UnitLaws store (asked rs)) (d : Lent) (v : 
       ∙ given-some _ (logOf (v .top) (v .recs)) (refused 0 2 d) _ (known-live rs U d v)
       ∙ given-none _ (refused 0 10 d) _ e
 
-  step-open : (k : ℕ) → length (todoOf (stateOf (v .top) (v .recs) .opened)) ≡ suc k → Live rs (Calls.step d .now)
+  step-open : (k : ℕ) → length (todoOf (stateOf (v .top) (v .recs) .opened)) ≡ suc k → Live rs origin (Calls.step d .now)
   step-open k z =
       let (r, w′, next, applies, fewer) = step-accepted store (asked rs) (page-laws rs) U (v .reached) z in
-      let h : Reached store (asked rs) (v .origin) (some w′) (d .store) (v .top) (v .recs ++ (r ∷ [])) (v .many) =
+      let h : Reached store (asked rs) origin (some w′) (d .store) (v .top) (v .recs ++ (r ∷ [])) (v .many) =
       Reached.step (v .reached) z next applies in
       rw (step-is k r w′ z next applies)
-      (subst₂ (λ (a : ℕ) (b : List ℕ). Live rs (lent a (d .forced) w′ (d .store) b (d .bytes))) (sym (at-grown (v .top) (v .recs) r))
+      (subst₂ (λ (a : ℕ) (b : List ℕ). Live rs origin (lent a (d .forced) w′ (d .store) b (d .bytes))) (sym (at-grown (v .top) (v .recs) r))
       (log-grown r (stored-of rs U h .good)) (live-grown rs U d v r w′ h))
 
   -- an open unit still lacks records
@@ -232,10 +230,10 @@ module _ (rs : List (List ℕ)) (U : UnitLaws store (asked rs)) (d : Lent) (v : 
       let t : Some (o .todo) = ending-some (a .todo) in
       (length (t .tail), ap length (todo-of (stateOf (v .top) (v .recs) .opened) o (t .head ∷ t .tail) e (t .is)))
 
-  pub step-live : Live rs (Calls.step d .now)
+  pub step-live : Live rs origin (Calls.step d .now)
   step-live = by-open (stateOf (v .top) (v .recs) .opened) refl
     where
-      by-open : (o : Option Open) → stateOf (v .top) (v .recs) .opened ≡ o → Live rs (Calls.step d .now)
+      by-open : (o : Option Open) → stateOf (v .top) (v .recs) .opened ≡ o → Live rs origin (Calls.step d .now)
       by-open none e = rw (step-none e) (live-same (refused 0 10 d) (refused-now 0 10 d) v)
       by-open (some o) e = let (k, z) = open-left o e in step-open k z
 
@@ -249,12 +247,11 @@ module _ (rs : List (List ℕ)) (U : UnitLaws store (asked rs)) (d : Lent) (v : 
       (sym (given-some (lastForced (d .forced) (logOf (v .top) (v .recs))) (v .top .number + v .many) false (leb (number (page p (d .work))))
       (forced-image d (v .top) (v .recs) (v .many) (v .numbered))) ∙ e)
 
-  pub flush-live : (p : ℕ) → Live rs (Calls.flush p d .now)
+  pub flush-live : (p : ℕ) → Live rs origin (Calls.flush p d .now)
   unfolding Calls.flush
   flush-live p =
       by-test _ 0 1 _ v (λ sized. rw (given-some _ (logOf (v .top) (v .recs)) (refused 0 2 d) _ (known-live rs U d v))
       (by-test _ 0 12 _ v (λ small. by-test _ 0 13 _ v (λ e. record {
-        origin = v .origin;
         top = v .top;
         recs = v .recs;
         many = v .many;
@@ -263,12 +260,11 @@ module _ (rs : List (List ℕ)) (U : UnitLaws store (asked rs)) (d : Lent) (v : 
         numbered = record { used = v .numbered .used; forced = v .numbered .forced; among = v .numbered .among };
       }))))
 
-  pub force-live : Live rs (Calls.force d .now)
+  pub force-live : Live rs origin (Calls.force d .now)
   unfolding Calls.force
   force-live =
       by-test _ 0 1 _ v (λ sized. rw (given-some _ (logOf (v .top) (v .recs)) (refused 0 2 d) _ (known-live rs U d v))
       (record {
-        origin = v .origin;
         top = v .top;
         recs = v .recs;
         many = length (v .recs);
@@ -281,15 +277,23 @@ module _ (rs : List (List ℕ)) (U : UnitLaws store (asked rs)) (d : Lent) (v : 
         };
       }))
 
-  pub checkpoint-live : (clear : Bool) → Live rs (Calls.checkpoint clear d .now)
-  unfolding Calls.checkpoint
+  -- an accepted checkpoint writes a check record: the pages at that record are then the work pages
+  abbrev Anew : Left → Type 0
+  Anew x = Live rs (pick (eqb (x .reply) 0) (d .work) origin) (x .now)
+
+  anew-test : (b : Bool) (r : ℕ) (y : Left) → eqb r 0 ≡ false → (b ≡ true → Anew y) → Anew (need b (refused 0 r d) y)
+  unfolding need refused pick
+  anew-test true r y z f = f refl
+  anew-test false r y z f = rw z v
+
+  pub checkpoint-live : (clear : Bool) → Anew (Calls.checkpoint clear d)
+  unfolding Calls.checkpoint pick
   checkpoint-live clear =
-      by-test _ 0 1 _ v (λ sized. rw (given-some _ (logOf (v .top) (v .recs)) (refused 0 2 d) _ (known-live rs U d v))
-      (by-test _ 0 9 _ v (λ shut. by-test _ 0 14 _ v (λ equal. by-test _ 0 7 _ v (λ nums.
+      anew-test _ 1 _ refl (λ sized. rw (given-some _ (logOf (v .top) (v .recs)) (refused 0 2 d) _ (known-live rs U d v))
+      (anew-test _ 9 _ refl (λ shut. anew-test _ 14 _ refl (λ equal. anew-test _ 7 _ refl (λ nums.
       let n : Checks (v .top) (v .recs) (checkpointed clear (stateOf (v .top) (v .recs))) =
       record { clear = clear; is = refl; numbered = leb-true _ most4 nums } in
       record {
-        origin = d .work;
         top = checkpointed clear (stateOf (v .top) (v .recs));
         recs = [];
         many = 0;
@@ -300,17 +304,17 @@ module _ (rs : List (List ℕ)) (U : UnitLaws store (asked rs)) (d : Lent) (v : 
 
   -- ---- find, list
 
-  answered-live : (x : Found) → Live rs (answered d x .now)
+  answered-live : (x : Found) → Live rs origin (answered d x .now)
   unfolding answered
   answered-live (missing r) = live-same (refused 10 r d) (refused-now 10 r d) v
   answered-live (found b) = v
 
-  pub find-live : (key : ℕ) → Live rs (Calls.find key d .now)
+  pub find-live : (key : ℕ) → Live rs origin (Calls.find key d .now)
   unfolding Calls.find
   find-live key =
       by-test _ 10 1 _ v (λ sized. by-value _ 10 2 _ v (λ g e. by-test _ 10 9 _ v (λ shut. answered-live _)))
 
-  pub list-live : (low high : ℕ) → Live rs (Calls.list low high d .now)
+  pub list-live : (low high : ℕ) → Live rs origin (Calls.list low high d .now)
   unfolding Calls.list
   list-live low high =
       by-test _ 2 1 _ v (λ sized. by-value _ 2 2 _ v (λ g e. by-test _ 2 9 _ v (λ shut. by-test _ 2 3 _ v (λ form. by-test _ 2 8 _ v (λ well. live-room _ v)))))

@@ -16,11 +16,11 @@ use Rattle.store.specs.Calls.{Lent}
 use Rattle.store.specs.Calls as Calls
 use Rattle.replay.specs.Laws.{UnitLaws}
 use Rattle.promise.specs.Parts.{store, asked, Chooses}
-use Rattle.promise.specs.Promise.{History, Demand3, Spared}
+use Rattle.promise.specs.Promise.{History, Demand3, Spared, Steps}
 use Rattle.promise.proofs.OnUnits.{chosen-unit, unit-laws}
 use Rattle.promise.proofs.Starts.{built-live}
 use Rattle.promise.proofs.Histories.{kept-in, live-in}
-use Rattle.promise.proofs.Replies.{begin-compact-spared, begin-order-spared, step-spared}
+use Rattle.promise.proofs.Replies.{begin-compact-spared, begin-order-spared, steps}
 
 -- a unit that a begin call chooses is carried out
 chosen-keeps : (n : ℕ) (s : State) (g : Begin) (w : List ℕ) → Tidy w → Chooses s w g → g .unit ≤ most4 → n + length (plan g) ≤ 4294967296 → Keeps n g w
@@ -33,15 +33,15 @@ units rs = unit-laws chosen-keeps rs
 
 -- DEMAND 3
 pub demand-3 : Demand3
-demand-3 rs d forced on h sized = kept-in rs (units rs) (built-live rs) d forced on h sized
+demand-3 rs o d forced on h sized = kept-in rs (units rs) (built-live rs) o d forced on h sized
 
--- inside a history begin and step refuse neither log, page, page change nor tree
-module _ (rs : List (List ℕ)) (d : Lent) (forced : ℕ) (h : History rs d forced true) where
+-- inside a history a begin refuses neither log, page, page change nor tree, and a step is accepted wherever a unit is open
+module _ (rs : List (List ℕ)) (o : List ℕ) (d : Lent) (forced : ℕ) (h : History rs o d forced true) where
   pub begin-compact-in : (fill : ℕ) → Spared (Calls.beginCompact fill d)
-  begin-compact-in fill = begin-compact-spared rs (units rs) d (live-in rs (units rs) (built-live rs) d forced h) fill
+  begin-compact-in fill = begin-compact-spared rs (units rs) d (live-in rs (units rs) (built-live rs) o d forced h) fill
 
   pub begin-order-in : Spared (Calls.beginOrder d)
-  begin-order-in = begin-order-spared rs (units rs) d (live-in rs (units rs) (built-live rs) d forced h)
+  begin-order-in = begin-order-spared rs (units rs) d (live-in rs (units rs) (built-live rs) o d forced h)
 
-  pub step-in : Spared (Calls.step d)
-  step-in = step-spared rs (units rs) d (live-in rs (units rs) (built-live rs) d forced h)
+  pub step-in : Steps d
+  step-in = steps rs (units rs) d (live-in rs (units rs) (built-live rs) o d forced h)

@@ -29,9 +29,9 @@ use Rattle.store.specs.Calls.{stopped, went, andThen, didOf, todoOf, append, lo
 use Rattle.store.specs.Calls as Calls
 use Rattle.replay.specs.Store.{run}
 use Rattle.replay.specs.Store as Replay
+use Rattle.unit.proofs.Kept.{Stands, fits-stands}
 use Rattle.promise.specs.Parts.{logOf, stateOf, nextOf, store}
 use Rattle.promise.proofs.Image.{image, put-image}
-use Rattle.promise.proofs.Standing.{Standing, fits-standing}
 
 -- ---- the next record
 
@@ -77,7 +77,7 @@ opened-of s (some o) x xs e t = record { unit = o; is = e; todo = t }
 pub opened-at : (s : State) (x : Step) (xs : List Step) → todoOf (s .opened) ≡ x ∷ xs → Opened s x xs
 opened-at s x xs t = opened-of s (s .opened) x xs refl t
 
-did-of : (s : State) (o : Open) → s .opened ≡ some o → didOf (s .opened) ≡ o .did
+pub did-of : (s : State) (o : Open) → s .opened ≡ some o → didOf (s .opened) ≡ o .did
 unfolding didOf
 did-of s o e = rw e
 
@@ -185,7 +185,7 @@ finish-is c (x ∷ xs) w l w′ l′ g b t e =
     let r : Rec = u .added in
     let o : Opened (stateOf c l) x xs = opened-at (stateOf c l) x xs t in
     let f : Fits (stateOf c l) r = next-fits (stateOf c l) x xs w r b o (u .next) in
-    let k : Standing (stateOf c l .number + 1) r = fits-standing (sound-atEnd (logOf c l) g) (end-keeps (logOf c l) g) f in
+    let k : Stands (stateOf c l .number + 1) r = fits-stands (sound-atEnd (logOf c l) g) (end-keeps (logOf c l) g) f in
     rw (append-is c l x xs w (u .work) r g f (u .next) (u .applies))
     (
     finish-is c xs (u .work) (l ++ (r ∷ [])) w′ l′ (good-grown (logOf c l) r g f) (apply-bytes (stateOf c l .number + 1) r w (u .work) (k .rows) b (u .applies))

@@ -1,22 +1,20 @@
 -- Every state of a history is live or lost in the sense of Live.antt; so recovery keeps what is promised. Assumes nothing but the unit laws
 -- and what is known of a finished build, which are handed in.
-use Prim.Native.Nat.{ℕ, suc, _+_, _-_, _*_, _/_, _≤_}
+use Prim.Native.Nat.{ℕ, _+_, _-_, _/_, _≤_}
 use native.Mathlib.Omega.{arith}
 use mathlib.Core.Path.{_≡_, refl, sym, ap, ap₂, _∙_, subst}
 use mathlib.Core.Bool.{Bool, true, false}
 use mathlib.Core.List.{List, [], _∷_, _++_}
 use mathlib.Core.Option.{Option, some, none, Option·some-injective}
-use lib.ListN.{length, take, getD, length-append, length-drop}
+use lib.ListN.{length, take, length-append, length-drop}
 use lib.Seq.{take-length, take-append-le, take-take, length-take-le}
-use lib.Dec.{eqb}
-use Rattle.field.specs.Test.{pick}
 use Rattle.field.specs.Bytes.{Bytes, zeroes}
 use Rattle.page.specs.Page.{rowsOf}
-use Rattle.page.specs.Pages.{pages}
+use Rattle.page.specs.Pages.{pages, allFormed}
+use Rattle.page.proofs.Pages.{formed-pages}
 use Rattle.log.specs.Record.{Check, Begin, Rec}
-use Rattle.log.specs.Plan.{Step, takeOut, bringIn, point, close, gather, removals, others, replacing, compactPlan, movePlan, swapPlan, plan}
+use Rattle.log.specs.Plan.{close, plan}
 use Rattle.log.specs.Log.{Open, beginOk, readLog}
-use Rattle.log.proofs.Begin.{beginOk-limits}
 use Rattle.log.proofs.State.{sizes, at-atEnd}
 use Rattle.log.proofs.Valid.{Good}
 use Rattle.log.proofs.Sound.{Waits, waits-open, awaits-todo, sound-atEnd}
@@ -25,86 +23,27 @@ use Rattle.field.proofs.Part.{split}
 use Rattle.store.specs.Calls.{Lent, lent, Left, left, threeSized, logLength, todoOf}
 use Rattle.store.specs.Calls as Calls
 use Rattle.replay.specs.Store.{Reached, Recovers}
-use Rattle.replay.specs.Store as Replay
 use Rattle.replay.specs.Laws.{UnitLaws}
 use Rattle.replay.proofs.Theorem.{theorem, origin-settled}
+use Rattle.unit.proofs.Rooms.{Plan, plan-body}
 use Rattle.promise.specs.Parts.{logOf, stateOf, store, asked}
-use Rattle.promise.specs.Promise.{Call, toBeginCompact, toBeginOrder, toStep, toFlush, toForce, toCheckpoint, toFind, toList, does, Cut, History, Kept}
+use Rattle.promise.specs.Promise.{Call, toBeginCompact, toBeginOrder, toStep, toFlush, toForce, toCheckpoint, toFind, toList, does, since, Cut, History, Kept}
 use Rattle.promise.proofs.OnPages.{page-laws}
 use Rattle.promise.proofs.Image.{read-image, take-image}
 use Rattle.promise.proofs.Recovering.{recoveredAs, recover-is}
 use Rattle.promise.proofs.Live.{Live, Lost, live-lost, live-room, lost-room, stored-of}
+use Rattle.promise.proofs.Refused.{unsized-now}
 use Rattle.promise.proofs.Called.{begin-compact-live, begin-order-live, step-live, flush-live, force-live, checkpoint-live, find-live, list-live}
 use Rattle.promise.proofs.Accepted.{open-none, ran, run-calls}
 use Rattle.promise.proofs.Starts.{recover-lengths, woken-live}
+use Rattle.promise.proofs.Rests.{find-rests}
 
 -- ---- a unit has 25 steps after its begin record at most
 
-length-gather : (dest : ℕ) (ps : List ℕ) → length (gather dest ps) ≤ 2 * length ps
-unfolding gather
-length-gather dest [] = omega arith
-length-gather dest (p ∷ ps) = by-pick (eqb p dest) (gather dest ps) (length-gather dest ps)
-  where
-    by-pick : (b : Bool) (ts : List Step) → length ts ≤ 2 * length ps → length (pick b ts (takeOut p dest ∷ bringIn p dest 1 ∷ ts)) ≤ 2 * suc (length ps)
-    by-pick true ts h = unfold pick in omega arith
-    by-pick false ts h = unfold pick in omega arith
-
-length-removals : (base : ℕ) (ps : List ℕ) → length (removals base ps) ≡ length ps
-unfolding removals
-length-removals base [] = refl
-length-removals base (p ∷ ps) = ap suc (length-removals base ps)
-
-length-others : (ps : List ℕ) → length (others ps) ≤ length ps - 1
-unfolding others
-length-others [] = omega arith
-length-others (p ∷ ps) = omega arith
-
-length-replacing : (base c dest : ℕ) → length (replacing base c dest) ≤ 1
-unfolding replacing
-length-replacing base c dest = by-pick (eqb c dest)
-  where
-    by-pick : (b : Bool) → length (pick b [] (point base c dest false ∷ [])) ≤ 1
-    by-pick true = unfold pick in omega arith
-    by-pick false = unfold pick in omega arith
-
-length-compact : (base dest : ℕ) (ls : List ℕ) → length ls ≤ 8 → length (compactPlan base dest ls) ≤ 24
-unfolding compactPlan
-length-compact base dest ls h =
-    rw (
-      length-append (gather dest ls) (replacing base (getD ls 0 0) dest ++ removals base (others ls)),
-      length-append (replacing base (getD ls 0 0) dest) (removals base (others ls)),
-      length-removals base (others ls),
-    )
-    (omega (arith, length-gather dest ls, length-replacing base (getD ls 0 0) dest, length-others ls))
-
-length-move : (p a b : ℕ) → length (movePlan p a b) ≤ 24
-unfolding movePlan
-length-move p a b = omega arith
-
-length-swap : (p q a b : ℕ) → length (swapPlan p q a b) ≤ 24
-unfolding swapPlan
-length-swap p q a b = omega arith
-
-pick-length : (t : Bool) (x y : List Step) → length x ≤ 24 → length y ≤ 24 → length (pick t x y) ≤ 24
-unfolding pick
-pick-length true x y h k = h
-pick-length false x y h k = k
-
-pub length-plan : (g : Begin) → beginOk g ≡ true → length (plan g) ≤ 25
-unfolding plan
+length-plan : (g : Begin) → beginOk g ≡ true → length (plan g) ≤ 25
 length-plan g e =
-    let l : length (g .leaves) ≤ 8 = beginOk-limits g e .leaves in
-    let p : ℕ = getD (g .bases) 0 0 in
-    let q : ℕ = getD (g .bases) 1 p in
-    let a : ℕ = getD (g .leaves) 0 0 in
-    let b : ℕ = getD (g .leaves) 1 0 in
-    let xs : List Step =
-    pick (eqb (g .type) 1) (compactPlan p (g .dest) (g .leaves)) (pick (eqb (g .type) 2) (swapPlan p q a b) (movePlan p a (g .dest))) in
-    let n : length xs ≤ 24 =
-    pick-length (eqb (g .type) 1) (compactPlan p (g .dest) (g .leaves)) (pick (eqb (g .type) 2) (swapPlan p q a b) (movePlan p a (g .dest)))
-    (length-compact p (g .dest) (g .leaves) l)
-    (pick-length (eqb (g .type) 2) (swapPlan p q a b) (movePlan p a (g .dest)) (length-swap p q a b) (length-move p a (g .dest))) in
-    rw (length-append xs (close (g .unit) ∷ [])) (omega arith)
+    let p : Plan g = plan-body g e in
+    rw (p .is, length-append (p .body) (close (g .unit) ∷ [])) (omega (arith, p .of .few))
 
 waits-few : {u : ℕ} (o : Option Open) → Waits u o → length (todoOf o) ≤ 25
 unfolding todoOf
@@ -119,8 +58,8 @@ few-left c l g = waits-few (stateOf c l .opened) (sound-atEnd (logOf c l) g .wai
 module _ (rs : List (List ℕ)) (U : UnitLaws store (asked rs)) where
   -- ---- calls
 
-  does-live : (k : Call) (d : Lent) → Live rs d → Live rs (does k d .now)
-  unfolding does
+  does-live : {origin : List ℕ} (k : Call) (d : Lent) → Live rs origin d → Live rs (since k origin d) (does k d .now)
+  unfolding does since
   does-live (toBeginCompact fill) d v = begin-compact-live rs U d v fill
   does-live toBeginOrder d v = begin-order-live rs U d v
   does-live toStep d v = step-live rs U d v
@@ -136,8 +75,8 @@ module _ (rs : List (List ℕ)) (U : UnitLaws store (asked rs)) where
   no-earlier : (m k : ℕ) (l : List Rec) → m ≤ length l → 24 + sizes (take m l) ≤ 24 + sizes (take k l) → m ≤ k
   no-earlier m k l h e = split k m (λ less. absurd (omega (arith, sizes-take-less k m l less h))) (λ a. a)
 
-  cut-lost : (d d′ : Lent) (forced : ℕ) → Lost rs d forced → Cut forced d d′ → Lost rs d′ forced
-  cut-lost d d′ forced v x =
+  cut-lost : (origin : List ℕ) (d d′ : Lent) (forced : ℕ) → Lost rs origin d forced → Cut forced d d′ → Lost rs origin d′ forced
+  cut-lost origin d d′ forced v x =
       let c : Check = v .top in
       let l : List Rec = v .recs in
       let g : Good (logOf c l) = stored-of rs U (v .reached) .good in
@@ -147,12 +86,11 @@ module _ (rs : List (List ℕ)) (U : UnitLaws store (asked rs)) where
       let m : ℕ = e .count in
       let fewer : v .many ≤ m = no-earlier (v .many) m l (v .among) (rw (← (v .held), ← (e .place)) (x .enough)) in
       record {
-        origin = v .origin;
         work = none;
         top = c;
         recs = take m l;
         many = v .many;
-        reached = subst (λ (s : List ℕ). Reached store (asked rs) (v .origin) none s c (take m l) (v .many)) (sym (x .store))
+        reached = subst (λ (s : List ℕ). Reached store (asked rs) origin none s c (take m l) (v .many)) (sym (x .store))
             (Reached.cut m (v .reached) fewer (e .among));
         log = x .log ∙ ap₂ (λ (k : ℕ) (b : List ℕ). take k b ++ zeroes (logLength - k)) (e .place) (v .log) ∙ take-image c l m g;
         held = v .held ∙ ap (λ (a : List Rec). 24 + sizes a) (sym (take-take (v .many) m l fewer));
@@ -161,16 +99,15 @@ module _ (rs : List (List ℕ)) (U : UnitLaws store (asked rs)) where
 
   -- ---- recovery
 
-  recovery-live : (d : Lent) (forced : ℕ) → Lost rs d forced → threeSized d ≡ true → Live rs (Calls.recover d .now)
-  recovery-live d forced v sized =
+  recovery-live : (origin : List ℕ) (d : Lent) (forced : ℕ) → Lost rs origin d forced → threeSized d ≡ true → Live rs origin (Calls.recover d .now)
+  recovery-live origin d forced v sized =
       let c : Check = v .top in
       let l : List Rec = v .recs in
-      let x : Recovers store (asked rs) (v .origin) (d .store) c l = theorem store (asked rs) (page-laws rs) U (v .reached) in
+      let x : Recovers store (asked rs) origin (d .store) c l = theorem store (asked rs) (page-laws rs) U (v .reached) in
       let e : Calls.recover d ≡ recoveredAs d c l (x .work) (x .rest) =
-      recover-is rs d (v .origin) c l sized (v .log) (stored-of rs U (v .reached) .good) x in
-      subst (λ (y : Left). Live rs (y .now)) (sym e)
+      recover-is rs d origin c l sized (v .log) (stored-of rs U (v .reached) .good) x in
+      subst (λ (y : Left). Live rs origin (y .now)) (sym e)
       (record {
-        origin = v .origin;
         top = c;
         recs = l ++ x .rest;
         many = length l;
@@ -185,16 +122,17 @@ module _ (rs : List (List ℕ)) (U : UnitLaws store (asked rs)) where
       })
 
   -- what is promised of it
-  recovery-kept : (d : Lent) (forced : ℕ) → Lost rs d forced → threeSized d ≡ true → Kept rs d
-  recovery-kept d forced v sized =
+  recovery-kept : (origin : List ℕ) (d : Lent) (forced : ℕ) → Lost rs origin d forced → threeSized d ≡ true → Kept rs origin d
+  recovery-kept origin d forced v sized =
       let c : Check = v .top in
       let l : List Rec = v .recs in
       let g : Good (logOf c l) = stored-of rs U (v .reached) .good in
-      let x : Recovers store (asked rs) (v .origin) (d .store) c l = theorem store (asked rs) (page-laws rs) U (v .reached) in
-      let e : Calls.recover d ≡ recoveredAs d c l (x .work) (x .rest) = recover-is rs d (v .origin) c l sized (v .log) g x in
+      let x : Recovers store (asked rs) origin (d .store) c l = theorem store (asked rs) (page-laws rs) U (v .reached) in
+      let e : Calls.recover d ≡ recoveredAs d c l (x .work) (x .rest) = recover-is rs d origin c l sized (v .log) g x in
       let more : Good (logOf c (l ++ x .rest)) = x .settled .shape .0 in
       record {
         accepted = ap (λ (y : Left). y .reply) e;
+        form = ap (λ (y : Left). allFormed 0 (pages (y .now .work))) e ∙ formed-pages (x .work) (x .settled .formed .form);
         tree = ap (λ (y : Left). Rattle.tree.specs.Tree.wellFormed (pages (y .now .work))) e ∙ x .settled .fine .0;
         records = ap (λ (y : Left). Rattle.tree.specs.Tree.allRecords (pages (y .now .work))) e ∙ x .settled .fine .1;
         found = logOf c l;
@@ -206,45 +144,49 @@ module _ (rs : List (List ℕ)) (U : UnitLaws store (asked rs)) where
         surviving = refl;
         count = ap (λ (y : Left). y .values) e;
         few = omega (arith, x .appended, few-left c l g);
-        origin = v .origin;
-        run = ran (v .origin) c (x .work) (l ++ x .rest);
-        uncut = run-calls rs U (v .origin) c (origin-settled store (asked rs) (page-laws rs) U (v .reached)) (x .uncut);
+        run = ran origin c (x .work) (l ++ x .rest);
+        uncut = run-calls rs U origin c (origin-settled store (asked rs) (page-laws rs) U (v .reached)) (x .uncut);
         same-work = sym (ap (λ (y : Left). y .now .work) e);
         same-log = sym (ap (λ (y : Left). y .now .log) e);
+        rests = λ key. find-rests key (Calls.recover d .now);
       }
 
   -- ---- every state of a history
 
-  data Holds (d : Lent) (forced : ℕ) : Bool → Type 0 where
-    alive : Live rs d → forced ≡ d .forced → Holds d forced true
-    gone : Lost rs d forced → Holds d forced false
+  data Holds (origin : List ℕ) (d : Lent) (forced : ℕ) : Bool → Type 0 where
+    alive : Live rs origin d → forced ≡ d .forced → Holds origin d forced true
+    gone : Lost rs origin d forced → Holds origin d forced false
 
-  lost-of : {d : Lent} {forced : ℕ} {on : Bool} → Holds d forced on → Lost rs d forced
-  lost-of {d} (alive v e) = subst (Lost rs d) (sym e) (live-lost v)
+  lost-of : {origin : List ℕ} {d : Lent} {forced : ℕ} {on : Bool} → Holds origin d forced on → Lost rs origin d forced
+  lost-of {origin} {d} (alive v e) = subst (Lost rs origin d) (sym e) (live-lost v)
   lost-of (gone v) = v
 
-  roomy : {d : Lent} {forced : ℕ} {on : Bool} (b : List ℕ) → Holds d forced on → Holds (lent (d .used) (d .forced) (d .work) (d .store) (d .log) b) forced on
+  roomy : {origin : List ℕ} {d : Lent} {forced : ℕ} {on : Bool} (b : List ℕ) → Holds origin d forced on
+      → Holds origin (lent (d .used) (d .forced) (d .work) (d .store) (d .log) b) forced on
   roomy b (alive v e) = alive (live-room b v) e
-  roomy b (gone v) = gone (lost-room b v)
+  roomy {d = d} b (gone v) = gone (lost-room (d .work) b v)
 
   module _ (B : (f g : ℕ) (d : Lent) → Bytes (d .bytes) → Calls.build f g d .reply ≡ 0 → rs ≡ rowsOf 16 (length (d .bytes) / 16) (d .bytes)
-      → Live rs (Calls.build f g d .now) × (24 ≡ Calls.build f g d .now .forced)) where
-    holds : {d : Lent} {forced : ℕ} {on : Bool} → History rs d forced on → Holds d forced on
+      → Live rs (Calls.build f g d .now .work) (Calls.build f g d .now) × (24 ≡ Calls.build f g d .now .forced)) where
+    holds : {origin : List ℕ} {d : Lent} {forced : ℕ} {on : Bool} → History rs origin d forced on → Holds origin d forced on
     holds (History.built f g d b e r) = let x = B f g d b e r in alive (x .0) (x .1)
     holds (History.woken d c b e r q) = let x = woken-live rs d c b e r q in alive (x .0) (sym (x .1))
-    holds (History.called {d = d} k h) = alive (does-live k d (live-of (holds h))) refl
+    holds (History.called {o = origin} {d = d} k h) = alive (does-live k d (live-of (holds h))) refl
       where
-        live-of : {forced : ℕ} → Holds d forced true → Live rs d
+        live-of : {forced : ℕ} → Holds origin d forced true → Live rs origin d
         live-of (alive v e) = v
-    holds (History.cut {d = d} {d′ = d′} {forced = forced} h x) = gone (cut-lost d d′ forced (lost-of (holds h)) x)
-    holds (History.recovery {d = d} {forced = forced} h e) = alive (recovery-live d forced (lost-of (holds h)) (recover-lengths d e)) refl
+    holds (History.cut {o = origin} {d = d} {d′ = d′} {forced = forced} h x) = gone (cut-lost origin d d′ forced (lost-of (holds h)) x)
+    holds (History.recovery {o = origin} {d = d} {forced = forced} h e) = alive (recovery-live origin d forced (lost-of (holds h)) (recover-lengths d e)) refl
+    holds (History.unsized {o = origin} {d = d} {forced = forced} {on = on} h e) =
+        subst (λ (x : Lent). Holds origin x forced on) (sym (unsized-now d e)) (holds h)
+    holds (History.mislent {d = d} e h same sized bad) = gone (lost-room (Calls.recover e .now .work) (d .bytes) (lost-of (holds h)))
     holds (History.lentRoom b h) = roomy b (holds h)
 
-    pub kept-in : (d : Lent) (forced : ℕ) (on : Bool) → History rs d forced on → threeSized d ≡ true → Kept rs d
-    kept-in d forced on h sized = recovery-kept d forced (lost-of (holds h)) sized
+    pub kept-in : (o : List ℕ) (d : Lent) (forced : ℕ) (on : Bool) → History rs o d forced on → threeSized d ≡ true → Kept rs o d
+    kept-in o d forced on h sized = recovery-kept o d forced (lost-of (holds h)) sized
 
-    pub live-in : (d : Lent) (forced : ℕ) → History rs d forced true → Live rs d
-    live-in d forced h = only (holds h)
+    pub live-in : (o : List ℕ) (d : Lent) (forced : ℕ) → History rs o d forced true → Live rs o d
+    live-in o d forced h = only (holds h)
       where
-        only : Holds d forced true → Live rs d
+        only : Holds o d forced true → Live rs o d
         only (alive v e) = v

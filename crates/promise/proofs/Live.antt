@@ -26,8 +26,7 @@ use Rattle.promise.proofs.Standing.{last-fits}
 use Rattle.promise.proofs.Image.{image, Stored, Numbered, length-image, put-image, at-grown, known-image}
 
 -- the work pages may be gone: the store's pages, the log's bytes, and how many of its records are forced
-pub record Lost (rs : List (List ℕ)) (d : Lent) (forced : ℕ) : Type 0 where
-  pub origin : List ℕ
+pub record Lost (rs : List (List ℕ)) (origin : List ℕ) (d : Lent) (forced : ℕ) : Type 0 where
   pub work : Option (List ℕ)
   pub top : Check
   pub recs : List Rec
@@ -38,8 +37,7 @@ pub record Lost (rs : List (List ℕ)) (d : Lent) (forced : ℕ) : Type 0 where
   pub among : many ≤ length recs
 
 -- the work pages are there, and the numbers say what is so
-pub record Live (rs : List (List ℕ)) (d : Lent) : Type 0 where
-  pub origin : List ℕ
+pub record Live (rs : List (List ℕ)) (origin : List ℕ) (d : Lent) : Type 0 where
   pub top : Check
   pub recs : List Rec
   pub many : ℕ
@@ -47,10 +45,9 @@ pub record Live (rs : List (List ℕ)) (d : Lent) : Type 0 where
   pub log : d .log ≡ image top recs
   pub numbered : Numbered d top recs many
 
-pub live-lost : {rs : List (List ℕ)} {d : Lent} → Live rs d → Lost rs d (d .forced)
+pub live-lost : {rs : List (List ℕ)} {origin : List ℕ} {d : Lent} → Live rs origin d → Lost rs origin d (d .forced)
 live-lost {d = d} v =
     record {
-      origin = v .origin;
       work = some (d .work);
       top = v .top;
       recs = v .recs;
@@ -62,10 +59,10 @@ live-lost {d = d} v =
     }
 
 -- nothing is said of list's room
-pub live-room : {rs : List (List ℕ)} {d : Lent} (b : List ℕ) → Live rs d → Live rs (lent (d .used) (d .forced) (d .work) (d .store) (d .log) b)
+pub live-room : {rs : List (List ℕ)} {origin : List ℕ} {d : Lent} (b : List ℕ) → Live rs origin d
+    → Live rs origin (lent (d .used) (d .forced) (d .work) (d .store) (d .log) b)
 live-room b v =
     record {
-      origin = v .origin;
       top = v .top;
       recs = v .recs;
       many = v .many;
@@ -74,11 +71,11 @@ live-room b v =
       numbered = record { used = v .numbered .used; forced = v .numbered .forced; among = v .numbered .among };
     }
 
-pub lost-room : {rs : List (List ℕ)} {d : Lent} {forced : ℕ} (b : List ℕ) → Lost rs d forced
-    → Lost rs (lent (d .used) (d .forced) (d .work) (d .store) (d .log) b) forced
-lost-room b v =
+-- nor, where the work pages may be gone, of what stands there
+pub lost-room : {rs : List (List ℕ)} {origin : List ℕ} {d : Lent} {forced : ℕ} (w b : List ℕ) → Lost rs origin d forced
+    → Lost rs origin (lent (d .used) (d .forced) w (d .store) (d .log) b) forced
+lost-room w b v =
     record {
-      origin = v .origin;
       work = v .work;
       top = v .top;
       recs = v .recs;
@@ -101,7 +98,7 @@ module _ (rs : List (List ℕ)) (U : UnitLaws store (asked rs)) where
   pub stored-of : {o s : List ℕ} {x : Option (List ℕ)} {c : Check} {l : List Rec} {m : ℕ} → Reached store (asked rs) o x s c l m → Stored c l
   stored-of g = let v = theorem store (asked rs) (page-laws rs) U g in record { good = v .log-form .0; fits = v .log-form .1 }
 
-  module _ (d : Lent) (v : Live rs d) where
+  module _ {origin : List ℕ} (d : Lent) (v : Live rs origin d) where
     pub stored : Stored (v .top) (v .recs)
     stored = stored-of (v .reached)
 
@@ -133,8 +130,8 @@ module _ (rs : List (List ℕ)) (U : UnitLaws store (asked rs)) where
     known-live = known-image d (v .top) (v .recs) (v .many) (v .log) (stored .good) (v .numbered)
 
     -- one record more
-    pub live-grown : (r : Rec) (w′ : List ℕ) → Reached store (asked rs) (v .origin) (some w′) (d .store) (v .top) (v .recs ++ (r ∷ [])) (v .many)
-        → Live rs
+    pub live-grown : (r : Rec) (w′ : List ℕ) → Reached store (asked rs) origin (some w′) (d .store) (v .top) (v .recs ++ (r ∷ [])) (v .many)
+        → Live rs origin
         (lent (stateOf (v .top) (v .recs) .at + size r) (d .forced) w′ (d .store)
         (put (stateOf (v .top) (v .recs) .at) (encode (stateOf (v .top) (v .recs) .number + 1) r) (d .log)) (d .bytes))
     live-grown r w′ g =
@@ -142,7 +139,6 @@ module _ (rs : List (List ℕ)) (U : UnitLaws store (asked rs)) where
         let l : List Rec = v .recs in
         let f : Fits (stateOf c l) r = last-fits c l r (stored-of g .good) in
         record {
-          origin = v .origin;
           top = c;
           recs = l ++ (r ∷ []);
           many = v .many;

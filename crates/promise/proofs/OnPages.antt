@@ -20,14 +20,15 @@ use Rattle.log.specs.Record.{Rec}
 use Rattle.unit.specs.Next.{target, change, changedAt, apply, repeat}
 use Rattle.unit.proofs.Changed.{Leaves, change-leaves, change-bytes, target-page}
 use Rattle.replay.specs.Store.{Meaning, again}
+use Rattle.unit.proofs.Kept as Unit
 use Rattle.replay.specs.Laws.{Stands, PageLaws}
 use Rattle.promise.specs.Parts.{changeAt, store, asked}
-use Rattle.promise.proofs.Standing.{Standing, last-standing}
+use Rattle.promise.proofs.Standing.{last-stands}
 
 module _ (rs : List (List ℕ)) where
   -- a record that stands in a log in form, with the number that it has there
-  standing : (n : ℕ) (r : Rec) → Stands store (asked rs) n r → Standing n r
-  standing n r s = rw (s .numbered) (last-standing (s .top) (s .before) r (s .shape .0))
+  standing : (n : ℕ) (r : Rec) → Stands store (asked rs) n r → Unit.Stands n r
+  standing n r s = rw (s .numbered) (last-stands (s .top) (s .before) r (s .shape .0))
 
 -- ---- one page of all, for any function of it
 

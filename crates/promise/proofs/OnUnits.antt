@@ -34,10 +34,10 @@ use Rattle.tidy.specs.Tidy.{Tidy, Carried, done, step, Keeps}
 use Rattle.store.specs.Calls.{didOf, todoOf, logLength, checkpointed}
 use Rattle.replay.specs.Store.{Settled}
 use Rattle.replay.specs.Laws.{Able, closed, more, UnitLaws}
+use Rattle.unit.proofs.Kept.{Stands, fits-stands}
 use Rattle.promise.specs.Parts.{logOf, stateOf, nextOf, store, asked, Chooses, Checks}
-use Rattle.promise.proofs.Standing.{Standing, fits-standing}
 use Rattle.promise.proofs.Image.{Stored, at-grown, stored-grown}
-use Rattle.promise.proofs.Forward.{Opened, opened-at, next-facts, next-fits, ending-close, follows-does, todo-after, awaits-at}
+use Rattle.promise.proofs.Forward.{Opened, opened-at, did-of, next-facts, next-fits, ending-close, follows-does, todo-after, awaits-at}
 use Rattle.promise.proofs.Called.{bare-at, apply-begin}
 use Rattle.promise.proofs.Accepted.{open-none}
 use Rattle.promise.proofs.Starts.{none-left-bare}
@@ -70,10 +70,6 @@ does-past o xs y ys (does-close {unit = v}) h e = absurd (no-more h e)
     no-more : {u : ℕ} → Ending u (close v ∷ xs) → xs ≡ y ∷ ys → ⊥
     no-more h e = cons-nil (sym (ending-close v (close v) xs h refl) ∙ e)
 
-did-is : (s : State) (o : Open) → s .opened ≡ some o → didOf (s .opened) ≡ o .did
-unfolding didOf
-did-is s o e = rw e
-
 running-after : (c : Check) (l : List Rec) (did : List Rec) (x : Step) (xs : List Step) (r : Rec) → Good (logOf c l) → Fits (stateOf c l) r
     → Running (stateOf c l) did (x ∷ xs) → Running (stateOf c (l ++ (r ∷ []))) (r ∷ did) xs
 running-after c l did x xs r g f v =
@@ -85,7 +81,7 @@ running-after c l did x xs r g f v =
       past = λ y ys e.
           ap didOf (ap (λ (s : State). s .opened) (atEnd-grown (logOf c l) r) ∙ opened-after (stateOf c l) r ∙ ap (openedBy r) (o .is))
           ∙ does-past (o .unit) xs y ys d (subst (Ending (stateOf c l .unit)) (o .todo) (a .todo)) e
-          ∙ ap (λ (z : List Rec). r ∷ z) (sym (did-is (stateOf c l) (o .unit) (o .is)) ∙ v .past x xs refl);
+          ∙ ap (λ (z : List Rec). r ∷ z) (sym (did-of (stateOf c l) (o .unit) (o .is)) ∙ v .past x xs refl);
     }
   where
     opened-after : (s : State) (r : Rec) → after s r .opened ≡ openedBy r (s .opened)
@@ -104,7 +100,7 @@ module _ (rs : List (List ℕ)) where
       let n : nextOf (x ∷ xs) (stateOf c l) w ≡ some r = next-of x xs (stateOf c l) _ w r d next f (omega arith) in
       let o : Opened (stateOf c l) x xs = opened-at (stateOf c l) x xs (v .steps) in
       let fits : Fits (stateOf c l) r = next-fits (stateOf c l) x xs w r b o (next-facts x xs (stateOf c l) w r n) in
-      let st : Standing (stateOf c l .number + 1) r = fits-standing (sound-atEnd (logOf c l) (h .good)) (end-keeps (logOf c l) (h .good)) fits in
+      let st : Stands (stateOf c l .number + 1) r = fits-stands (sound-atEnd (logOf c l) (h .good)) (end-keeps (logOf c l) (h .good)) fits in
       let q : stepSize w x + room w xs ≡ room w (x ∷ xs) = unfold room in refl in
       let h′ : Stored c (l ++ (r ∷ [])) = stored-grown c l r h fits (omega arith) in
       let v′ : Running (stateOf c (l ++ (r ∷ []))) (r ∷ _) xs = running-after c l _ x xs r (h .good) fits v in

@@ -1,27 +1,28 @@
--- Inside a history begin and step never refuse the log, a page, a page change or the tree. Assumes nothing but the unit laws, which are
--- handed in.
+-- Inside a history a begin never refuses the log, a page, a page change or the tree, and a step is accepted wherever a unit is open. Assumes
+-- nothing but the unit laws, which are handed in.
 use Prim.Native.Nat.{ℕ}
 use native.Mathlib.Omega.{arith}
 use mathlib.Core.Path.{_≡_, refl, sym, ap, _∙_}
-use mathlib.Core.Logic.{_⊎_, inl, inr, ⊎-elim}
 use mathlib.Core.Bool.{Bool, true, false, not}
 use mathlib.Core.List.{List}
 use mathlib.Core.Option.{Option, some, none}
-use Rattle.field.specs.Test.{need, given, there}
+use Rattle.field.specs.Test.{pick, need, given, there}
 use Rattle.field.proofs.Test.{need-true, need-false, given-some}
 use Rattle.page.proofs.Pages.{formed-pages}
 use Rattle.log.specs.Record.{Begin}
-use Rattle.log.specs.Log.{Open}
+use Rattle.log.specs.Log.{Open, readLog}
 use Rattle.unit.specs.Choice.{orderUnit}
 use Rattle.store.specs.Calls.{Lent, Left, refused, begun, beginWith}
 use Rattle.store.specs.Calls as Calls
+use Rattle.store.proofs.Refusals.{reply-refused}
 use Rattle.replay.specs.Store.{Settled}
 use Rattle.replay.specs.Laws.{UnitLaws}
 use Rattle.replay.proofs.Theorem.{step-accepted}
 use Rattle.promise.specs.Parts.{logOf, stateOf, store, asked}
-use Rattle.promise.specs.Promise.{Spared}
+use Rattle.promise.specs.Promise.{Spared, Steps}
 use Rattle.promise.proofs.OnPages.{page-laws}
-use Rattle.promise.proofs.Live.{Live, two-sized, known-live}
+use Rattle.promise.proofs.Image.{read-image}
+use Rattle.promise.proofs.Live.{Live, stored, two-sized, known-live}
 use Rattle.promise.proofs.Called.{settled, step-is, step-none, open-left, not-there}
 
 -- a call that was accepted, or refused with another number
@@ -31,10 +32,6 @@ spared-zero x e = record { log = λ q. omega arith; form = λ q. omega arith; ch
 other : (k r : ℕ) (d : Lent) → (r ≡ 2 → ⊥) → (r ≡ 3 → ⊥) → (r ≡ 5 → ⊥) → (r ≡ 8 → ⊥) → Spared (refused k r d)
 unfolding refused
 other k r d a b c e = record { log = a; form = b; change = c; tree = e }
-
-reply-refused : (k r : ℕ) (d : Lent) → refused k r d .reply ≡ r
-unfolding refused
-reply-refused k r d = refl
 
 spared-test : (b : Bool) (x y : Left) → Spared x → Spared y → Spared (need b x y)
 unfolding need
@@ -46,7 +43,7 @@ unfolding given
 spared-value none x f h k = h
 spared-value (some a) x f h k = k a
 
-module _ (rs : List (List ℕ)) (U : UnitLaws store (asked rs)) (d : Lent) (v : Live rs d) where
+module _ (rs : List (List ℕ)) (U : UnitLaws store (asked rs)) {origin : List ℕ} (d : Lent) (v : Live rs origin d) where
   r6 : Spared (refused 0 6 d)
   r6 = other 0 6 d (λ q. omega arith) (λ q. omega arith) (λ q. omega arith) (λ q. omega arith)
 
@@ -95,18 +92,18 @@ module _ (rs : List (List ℕ)) (U : UnitLaws store (asked rs)) (d : Lent) (v : 
       (rw (given-some _ (logOf (v .top) (v .recs)) (refused 0 2 d) _ (known-live rs U d v)) (begin-spared orderUnit))
 
   -- a step is accepted where a unit is open, and there is nothing to do otherwise
-  pub step-replies : (Calls.step d .reply ≡ 0) ⊎ (Calls.step d .reply ≡ 10)
-  step-replies = by-open (stateOf (v .top) (v .recs) .opened) refl
-    where
-      by-open : (o : Option Open) → stateOf (v .top) (v .recs) .opened ≡ o → (Calls.step d .reply ≡ 0) ⊎ (Calls.step d .reply ≡ 10)
-      by-open none e = inr (ap (λ (x : Left). x .reply) (step-none rs U d v e) ∙ reply-refused 0 10 d)
-      by-open (some o) e =
-          let (k, z) = open-left rs U d v o e in
-          let (r, w′, next, applies, fewer) = step-accepted store (asked rs) (page-laws rs) U (v .reached) z in
-          inl (ap (λ (x : Left). x .reply) (step-is rs U d v k r w′ z next applies))
+  step-replies : (o : Option Open) → stateOf (v .top) (v .recs) .opened ≡ o → Calls.step d .reply ≡ pick (there o) 0 10
+  unfolding pick there
+  step-replies none e = ap (λ (x : Left). x .reply) (step-none rs U d v e) ∙ reply-refused 0 d 10
+  step-replies (some o) e =
+      let (k, z) = open-left rs U d v o e in
+      let (r, w′, next, applies, fewer) = step-accepted store (asked rs) (page-laws rs) U (v .reached) z in
+      ap (λ (x : Left). x .reply) (step-is rs U d v k r w′ z next applies)
 
-  pub step-spared : Spared (Calls.step d)
-  step-spared =
-      ⊎-elim (λ e. spared-zero (Calls.step d) e)
-      (λ (e : Calls.step d .reply ≡ 10). record { log = λ q. omega arith; form = λ q. omega arith; change = λ q. omega arith; tree = λ q. omega arith })
-      step-replies
+  pub steps : Steps d
+  steps =
+      record {
+        log = logOf (v .top) (v .recs);
+        is = ap readLog (v .log) ∙ read-image (v .top) (v .recs) (stored rs U d v .good);
+        reply = step-replies (stateOf (v .top) (v .recs) .opened) refl;
+      }

@@ -130,10 +130,9 @@ settled-bare rs w c n b st f low well e =
     }
 
 -- the same pages in work and store, the numbers at the check record's end
-pub live-bare : (rs : List (List ℕ)) (w b : List ℕ) (c : Check) → Settled store (asked rs) w c [] → Live rs (lent 24 24 w w (image c []) b)
+pub live-bare : (rs : List (List ℕ)) (w b : List ℕ) (c : Check) → Settled store (asked rs) w c [] → Live rs w (lent 24 24 w w (image c []) b)
 live-bare rs w b c g =
     record {
-      origin = w;
       top = c;
       recs = [];
       many = 0;
@@ -143,7 +142,7 @@ live-bare rs w b c g =
     }
 
 pub woken-live : (rs : List (List ℕ)) (d : Lent) (c : Check) → InBytes d → Calls.recover d .reply ≡ 0 → readLog (d .log) ≡ some (logOf c [])
-    → rs ≡ allRecords (pages (Calls.recover d .now .work)) → Live rs (Calls.recover d .now) × (Calls.recover d .now .forced ≡ 24)
+    → rs ≡ allRecords (pages (Calls.recover d .now .work)) → Live rs (Calls.recover d .now .work) (Calls.recover d .now) × (Calls.recover d .now .forced ≡ 24)
 unfolding threeSized pagesSized logSized
 woken-live rs d c b e r q =
     let f : Found d c = found-of d c r e in
@@ -157,7 +156,7 @@ woken-live rs d c b e r q =
     let y : Left = left 0 (0 ∷ []) (lent 24 24 (d .store) (d .store) (image c []) (d .bytes)) in
     let z : Calls.recover d ≡ y =
     f .is ∙ ap₂ (λ (a : ℕ) (l : List ℕ). left 0 (0 ∷ []) (lent a a (d .store) (d .store) l (d .bytes))) (bare-at c) i in
-    (subst (λ (x : Left). Live rs (x .now)) (sym z) (live-bare rs (d .store) (d .bytes) c g), ap (λ (x : Left). x .now .forced) z)
+    (subst (λ (x : Left). Live rs (x .now .work) (x .now)) (sym z) (live-bare rs (d .store) (d .bytes) c g), ap (λ (x : Left). x .now .forced) z)
 
 -- ---- a finished build
 
@@ -219,7 +218,7 @@ low-zero : (last : ℕ) (w : List ℕ) → ((p : ℕ) → p < 64 → number (pag
 low-zero last w h = none-newer last w (λ p k. omega (arith, h p k))
 
 pub built-live : (rs : List (List ℕ)) (f g : ℕ) (d : Lent) → Bytes (d .bytes) → Calls.build f g d .reply ≡ 0
-    → rs ≡ rowsOf 16 (length (d .bytes) / 16) (d .bytes) → Live rs (Calls.build f g d .now) × (24 ≡ Calls.build f g d .now .forced)
+    → rs ≡ rowsOf 16 (length (d .bytes) / 16) (d .bytes) → Live rs (Calls.build f g d .now .work) (Calls.build f g d .now) × (24 ≡ Calls.build f g d .now .forced)
 built-live rs f g d b e q =
     let x : Built f g d = built-of f g d e in
     let k : ℕ = length (d .bytes) / 16 in
@@ -231,4 +230,4 @@ built-live rs f g d b e q =
     let s : Settled store (asked rs) (layout f g rows) newest [] =
     settled-bare rs (layout f g rows) newest (l .whole) (l .bytes) newest-stored (l .form) (low-zero _ (layout f g rows) (l .stamps)) (l .tree) (l .holds ∙ sym q) in
     let z = x .is ∙ ap (λ (i : List ℕ). left 0 [] (lent 24 24 (layout f g rows) (layout f g rows) i (d .bytes))) (sym (image-bare newest)) in
-    (subst (λ (y : Left). Live rs (y .now)) (sym z) (live-bare rs (layout f g rows) (d .bytes) newest s), sym (ap (λ (y : Left). y .now .forced) z))
+    (subst (λ (y : Left). Live rs (y .now .work) (y .now)) (sym z) (live-bare rs (layout f g rows) (d .bytes) newest s), sym (ap (λ (y : Left). y .now .forced) z))

@@ -6,14 +6,15 @@ use mathlib.Core.Bool.{Bool, true, false}
 use mathlib.Core.List.{List, [], _∷_, _++_}
 use mathlib.Core.Option.{some, none}
 use lib.ListN.{length, take}
+use lib.Dec.{eqb}
+use Rattle.field.specs.Test.{pick, there}
 use Rattle.field.specs.Bytes.{Bytes, zeroes}
 use Rattle.page.specs.Page.{rowsOf}
-use Rattle.page.specs.Pages.{page, pages}
+use Rattle.page.specs.Pages.{page, pages, allFormed}
 use Rattle.log.specs.Record.{Check, Rec}
 use Rattle.log.specs.Log.{Log, readLog, atEnd, lastForced}
 use Rattle.tree.specs.Tree.{wellFormed, allRecords}
-use Rattle.tree.specs.Answer.{lookUp}
-use Rattle.store.specs.Calls.{Lent, lent, Left, threeSized, logLength, newLog, build, recover, beginCompact, beginOrder, step, flush, force, checkpoint, find, list}
+use Rattle.store.specs.Calls.{Lent, lent, Left, threeSized, pagesLength, logLength, newLog, build, recover, beginCompact, beginOrder, step, flush, force, checkpoint, find, list}
 
 -- ---- calls
 
@@ -62,24 +63,57 @@ pub record Cut (forced : ℕ) (d d′ : Lent) : Type 0 where
 
 -- ---- histories
 
--- calls and cuts, from a start with the records rs, lead to the buffers and numbers d. `forced` is how many bytes of the log calls have
--- forced, whatever the numbers say after a cut; on: the work pages are there, off: a cut has come and no recovery was accepted since
-pub data History (rs : List (List ℕ)) : (d : Lent) (forced : ℕ) (on : Bool) → Type 0 where
+-- the pages that stood when the log's check record was written, after a call: at an accepted checkpoint the work pages of that moment, else
+-- those of before, o
+unfoldable pub since : Call → (o : List ℕ) → Lent → List ℕ
+since (toBeginCompact fill) o d = o
+since toBeginOrder o d = o
+since toStep o d = o
+since (toFlush p) o d = o
+since toForce o d = o
+since (toCheckpoint clear) o d = pick (eqb (checkpoint clear d .reply) 0) (d .work) o
+since (toFind key) o d = o
+since (toList low high) o d = o
+
+-- calls and cuts, from a start with the records rs, lead to the buffers and numbers d; o are the pages that stood when the log's check record
+-- was written. `forced` is how many bytes of the log calls have forced, whatever the numbers say after a cut; on: the work pages are there,
+-- off: a cut has come and no recovery was accepted since
+pub data History (rs : List (List ℕ)) : (o : List ℕ) (d : Lent) (forced : ℕ) (on : Bool) → Type 0 where
   -- a finished build
   built : (f g : ℕ) (d : Lent) → Bytes (d .bytes) → build f g d .reply ≡ 0 → rs ≡ rowsOf 16 (length (d .bytes) / 16) (d .bytes)
-      → History rs (build f g d .now) 24 true
+      → History rs (build f g d .now .work) (build f g d .now) 24 true
   -- an accepted recovery whose log held only its check record
   woken : (d : Lent) (c : Check) → InBytes d → recover d .reply ≡ 0 → readLog (d .log) ≡ some (record { top = c; recs = [] })
-      → rs ≡ allRecords (pages (recover d .now .work)) → History rs (recover d .now) 24 true
+      → rs ≡ allRecords (pages (recover d .now .work)) → History rs (recover d .now .work) (recover d .now) 24 true
   -- any call, accepted or refused
-  called : {d : Lent} {forced : ℕ} (k : Call) → History rs d forced true → History rs (does k d .now) (does k d .now .forced) true
+  called : {o : List ℕ} {d : Lent} {forced : ℕ} (k : Call) → History rs o d forced true
+      → History rs (since k o d) (does k d .now) (does k d .now .forced) true
   -- a cut between any two writes, also one after another
-  cut : {d d′ : Lent} {forced : ℕ} {on : Bool} → History rs d forced on → Cut forced d d′ → History rs d′ forced false
+  cut : {o : List ℕ} {d d′ : Lent} {forced : ℕ} {on : Bool} → History rs o d forced on → Cut forced d d′ → History rs o d′ forced false
   -- an accepted recovery; it forces the log as it found it. A cut within it is one before it or one after it that keeps fewer of its records
-  recovery : {d : Lent} {forced : ℕ} {on : Bool} → History rs d forced on → recover d .reply ≡ 0 → History rs (recover d .now) (recover d .now .forced) true
+  recovery : {o : List ℕ} {d : Lent} {forced : ℕ} {on : Bool} → History rs o d forced on → recover d .reply ≡ 0
+      → History rs o (recover d .now) (recover d .now .forced) true
+  -- a recovery that is refused because a buffer has the wrong length
+  unsized : {o : List ℕ} {d : Lent} {forced : ℕ} {on : Bool} → History rs o d forced on → threeSized d ≡ false
+      → History rs o (recover d .now) forced on
+  -- a recovery that is lent these work pages beside some other store or log, and is refused past its lengths: the work pages are lost
+  mislent : {o : List ℕ} {d : Lent} {forced : ℕ} {on : Bool} (e : Lent) → History rs o d forced on → e .work ≡ d .work
+      → threeSized e ≡ true → (recover e .reply ≡ 0 → ⊥)
+      → History rs o (lent (d .used) (d .forced) (recover e .now .work) (d .store) (d .log) (d .bytes)) forced false
   -- list may be lent any room
-  lentRoom : {d : Lent} {forced : ℕ} {on : Bool} (b : List ℕ) → History rs d forced on
-      → History rs (lent (d .used) (d .forced) (d .work) (d .store) (d .log) b) forced on
+  lentRoom : {o : List ℕ} {d : Lent} {forced : ℕ} {on : Bool} (b : List ℕ) → History rs o d forced on
+      → History rs o (lent (d .used) (d .forced) (d .work) (d .store) (d .log) b) forced on
+
+-- ---- refused calls
+
+-- a refused call leaves all that it was lent, whatever that is: so a call that is lent some buffers of a history and some others, and is refused,
+-- is no event of that history. A recovery refused past its lengths leaves all but the work pages
+pub record Refusals : Type 0 where
+  pub calls : (k : Call) (d : Lent) → (does k d .reply ≡ 0 → ⊥) → does k d .now ≡ d
+  pub building : (f g : ℕ) (d : Lent) → (build f g d .reply ≡ 0 → ⊥) → build f g d .now ≡ d
+  pub lengths : (d : Lent) → threeSized d ≡ false → recover d .now ≡ d
+  pub recovery : (d : Lent) → (recover d .reply ≡ 0 → ⊥) → threeSized d ≡ true
+      → recover d .now ≡ lent (d .used) (d .forced) (zeroes pagesLength) (d .store) (d .log) (d .bytes)
 
 -- ---- what is promised
 
@@ -90,10 +124,26 @@ pub data Uncut (o : List ℕ) (c : Check) : (e : Lent) → Type 0 where
   order : {e : Lent} → Uncut o c e → beginOrder e .reply ≡ 0 → Uncut o c (beginOrder e .now)
   onward : {e : Lent} → Uncut o c e → step e .reply ≡ 0 → Uncut o c (step e .now)
 
--- recovery lent d is accepted, and leaves a well-formed tree with exactly the starting records, every begun unit complete, log and work pages
--- byte for byte those of a run of the surviving log without a cut
-pub record Kept (rs : List (List ℕ)) (d : Lent) : Type 0 where
+-- two calls reply and return the same
+pub record Alike (x y : Left) : Type 0 where
+  pub reply : x .reply ≡ y .reply
+  pub values : x .values ≡ y .values
+
+-- find, lent d, rests on the root, one base page and one leaf: with any other work pages of the same length that agree with those of d on
+-- these three it replies and returns the same
+pub record Rests (key : ℕ) (d : Lent) : Type 0 where
+  pub base : ℕ
+  pub leaf : ℕ
+  pub enough : (w : List ℕ) → length w ≡ length (d .work)
+      → page 0 w ≡ page 0 (d .work) → page base w ≡ page base (d .work) → page leaf w ≡ page leaf (d .work)
+      → Alike (find key (lent (d .used) (d .forced) w (d .store) (d .log) (d .bytes))) (find key d)
+
+-- recovery lent d is accepted, and leaves pages in form that are a well-formed tree with exactly the starting records, every begun unit
+-- complete, log and work pages byte for byte those of a run of the surviving log without a cut, from the pages o at its check record; what find
+-- then answers rests on three pages
+pub record Kept (rs : List (List ℕ)) (o : List ℕ) (d : Lent) : Type 0 where
   pub accepted : recover d .reply ≡ 0
+  pub form : allFormed 0 (pages (recover d .now .work)) ≡ true
   pub tree : wellFormed (pages (recover d .now .work)) ≡ true
   pub records : allRecords (pages (recover d .now .work)) ≡ rs
   pub found : Log  -- the log as it was found
@@ -105,47 +155,28 @@ pub record Kept (rs : List (List ℕ)) (d : Lent) : Type 0 where
   pub surviving : left ≡ record { top = found .top; recs = found .recs ++ grown }
   pub count : recover d .values ≡ length grown ∷ []
   pub few : length grown ≤ 25
-  pub origin : List ℕ  -- the pages when the check record was written
   pub run : Lent
-  pub uncut : Uncut origin (found .top) run
+  pub uncut : Uncut o (found .top) run
   pub same-work : run .work ≡ recover d .now .work
   pub same-log : run .log ≡ recover d .now .log
+  pub rests : (key : ℕ) → Rests key (recover d .now)
 
 -- demand 3
 abbrev pub Demand3 : Type 0
 Demand3 =
-    (rs : List (List ℕ)) (d : Lent) (forced : ℕ) (on : Bool) → History rs d forced on → threeSized d ≡ true → Kept rs d
+    (rs : List (List ℕ)) (o : List ℕ) (d : Lent) (forced : ℕ) (on : Bool) → History rs o d forced on → threeSized d ≡ true → Kept rs o d
 
 -- ---- begin and step inside a history
 
--- log, pages, page changes and tree are never what a call refuses: replies 2, 3, 5 and 8 do not come
+-- log, pages, page changes and tree are never what a begin refuses: replies 2, 3, 5 and 8 do not come
 pub record Spared (x : Left) : Type 0 where
   pub log : x .reply ≡ 2 → ⊥
   pub form : x .reply ≡ 3 → ⊥
   pub change : x .reply ≡ 5 → ⊥
   pub tree : x .reply ≡ 8 → ⊥
 
--- ---- find
-
--- find's answer rests on the root, one base page and one leaf: any work pages that agree with w on these three give the same
-pub record Rests (key : ℕ) (w : List ℕ) : Type 0 where
-  pub base : ℕ
-  pub leaf : ℕ
-  pub enough : (w′ : List ℕ) → page 0 w′ ≡ page 0 w → page base w′ ≡ page base w → page leaf w′ ≡ page leaf w → lookUp key w′ ≡ lookUp key w
-
--- ---- what contracts fix
-
--- a call's contract says of what the code leaves, x, that it is what the call's definition leaves: so any two results that it allows are equal,
--- in the reply, the values, the numbers and every byte of each buffer
-pub record Same (x y : Left) : Type 0 where
-  pub reply : x .reply ≡ y .reply
-  pub values : x .values ≡ y .values
-  pub used : x .now .used ≡ y .now .used
-  pub forced : x .now .forced ≡ y .now .forced
-  pub work : x .now .work ≡ y .now .work
-  pub store : x .now .store ≡ y .now .store
-  pub log : x .now .log ≡ y .now .log
-  pub bytes : x .now .bytes ≡ y .now .bytes
-
-abbrev pub Fixes : Left → Type 0
-Fixes means = (x y : Left) → x ≡ means → y ≡ means → Same x y
+-- a step is accepted wherever a unit is open, and replies 10 where none is
+pub record Steps (d : Lent) : Type 0 where
+  pub log : Log
+  pub is : readLog (d .log) ≡ some log
+  pub reply : step d .reply ≡ pick (there (atEnd log .opened)) 0 10

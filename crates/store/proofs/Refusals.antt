@@ -24,7 +24,7 @@ Keeps k d x = Refuses (λ r. refused k r d) x
 abbrev pub Zeroes : Lent → Left → Type 0
 Zeroes d x = Refuses (λ r. zeroed r d) x
 
-reply-refused : (k : ℕ) (d : Lent) (r : ℕ) → refused k r d .reply ≡ r
+pub reply-refused : (k : ℕ) (d : Lent) (r : ℕ) → refused k r d .reply ≡ r
 unfolding refused
 reply-refused k d r = refl
 

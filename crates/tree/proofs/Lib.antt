@@ -5,6 +5,7 @@ pub mod Turn
 pub mod Descent
 pub mod Tally
 pub mod Between
+pub mod Rootless
 pub mod Sound
 pub mod Chain
 pub mod Onward

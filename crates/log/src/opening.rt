@@ -5,6 +5,7 @@ ghost use lib.ListN.{length, drop, getD};
 ghost use Rattle.field.specs.Bytes.{part, allZero};
 ghost use Rattle.log.specs.Stand.{spareZero};
 ghost use Rattle.log.specs.Log.{within, listed, differ, compactOk, swapOk, moveOk, typeOk, beginOk, readFields, readBegin};
+use field::PageNo;
 
 // The byte at an offset, as a count.
 pub fn byte_at(m: &[u8], i: usize) -> usize
@@ -15,18 +16,18 @@ pub fn byte_at(m: &[u8], i: usize) -> usize
 }
 
 // Whether n listed pages lie in from .. to.
-fn within(m: &[u8], from: u16, to: u16, start: usize, n: usize) -> bool
+fn within(m: &[u8], from: PageNo, to: PageNo, start: usize, n: usize) -> bool
     requires { ⌜ start + 2 * n ≤ length (now m) ⌝ }
-    ensures { λ r. ⌜ r ≡ within from to (readFields n (drop start (now (m .entry)))) ⌝ }
+    ensures { λ r. ⌜ r ≡ within (from .0) (to .0) (readFields n (drop start (now (m .entry)))) ⌝ }
 {
     let mut at = start;
     let mut left = n;
     while 0 < left {
         let p = field::get2(m, at);
-        if p < from {
+        if p < from.0 {
             return false;
         }
-        if to < p {
+        if to.0 < p {
             return false;
         }
         at += 2;
@@ -36,14 +37,14 @@ fn within(m: &[u8], from: u16, to: u16, start: usize, n: usize) -> bool
 }
 
 // Whether the page p is among n listed pages.
-fn listed(m: &[u8], p: u16, start: usize, n: usize) -> bool
+fn listed(m: &[u8], p: PageNo, start: usize, n: usize) -> bool
     requires { ⌜ start + 2 * n ≤ length (now m) ⌝ }
-    ensures { λ r. ⌜ r ≡ listed p (readFields n (drop start (now (m .entry)))) ⌝ }
+    ensures { λ r. ⌜ r ≡ listed (p .0) (readFields n (drop start (now (m .entry)))) ⌝ }
 {
     let mut at = start;
     let mut left = n;
     while 0 < left {
-        if p == field::get2(m, at) {
+        if p.0 == field::get2(m, at) {
             return true;
         }
         at += 2;
@@ -60,7 +61,7 @@ fn differ(m: &[u8], start: usize, n: usize) -> bool
     let mut at = start;
     let mut left = n;
     while 0 < left {
-        let p = field::get2(m, at);
+        let p = PageNo(field::get2(m, at));
         if listed(m, p, at + 2, left - 1) {
             return false;
         }
@@ -92,11 +93,11 @@ fn compact_ok(m: &[u8]) -> bool
     if 15 < fill {
         return false;
     }
-    if !within(m, 8, 63, 40, 1) {
+    if !within(m, PageNo(8), PageNo(63), 40, 1) {
         return false;
     }
-    let dest = field::get2(m, 40);
-    if dest == field::get2(m, 24) {
+    let dest = PageNo(field::get2(m, 40));
+    if dest.0 == field::get2(m, 24) {
         return true;
     }
     !listed(m, dest, 24, leaves)
@@ -137,10 +138,10 @@ fn move_ok(m: &[u8]) -> bool
     if byte_at(m, 17) != 0 {
         return false;
     }
-    if !within(m, 8, 63, 40, 1) {
+    if !within(m, PageNo(8), PageNo(63), 40, 1) {
         return false;
     }
-    let dest = field::get2(m, 40);
+    let dest = PageNo(field::get2(m, 40));
     !listed(m, dest, 24, 1)
 }
 
@@ -172,13 +173,13 @@ pub fn begin_ok(m: &[u8]) -> bool
     if !type_ok(m) {
         return false;
     }
-    if !within(m, 1, 7, 20, bases) {
+    if !within(m, PageNo(1), PageNo(7), 20, bases) {
         return false;
     }
     if !differ(m, 20, bases) {
         return false;
     }
-    if !within(m, 8, 63, 24, leaves) {
+    if !within(m, PageNo(8), PageNo(63), 24, leaves) {
         return false;
     }
     differ(m, 24, leaves)

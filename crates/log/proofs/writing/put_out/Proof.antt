@@ -17,7 +17,7 @@ same-length : tie.Need-same-length
 same-length c = search needs
 
 returns : tie.Need-returns
-returns c = let a = c .before .before .before .before .before .before .before .before .before .before in cc (out-puts (a .args .s .now) (a .args .at) (a .args .n) (a .args .org) (a .args .dest) (a .args .k) (a .args .rs .now) (a .pre .1) (a .pre .0 .2))
+returns c = let a = c .before .before .before .before .before .before .before .before .before .before in cc (out-puts (a .args .s .now) (a .args .at) (a .args .n .0) (a .args .org .0) (a .args .dest .0) (a .args .k) (a .args .rs .now) (a .pre .1) (a .pre .0 .2))
 
 pub put-out-spec : {M : Type 1} → statement M
 put-out-spec = tie.close (tie.spec put-paged-requires add-copy copy-requires same-length returns)

@@ -48,7 +48,7 @@ with-entry-requires c κs =
     let a = l .before .before .before in
     let small : l .loop .k < 30 = omega arith in
     let n = image-count (a .args .sign) (a .args .f) (a .args .records .now) (a .args .step) (a .args .i) (a .args .p .0) (l .loop .k) small (l .loop .image) (l .loop .inv .2) in
-    (image-again (a .args .sign) (a .args .f) (a .args .records .now) (a .args .step) (a .args .i) (a .args .p .0) (l .loop .k) small (l .loop .image) (l .loop .inv .2), (omega arith, omega arith))
+    (image-again (a .args .sign) (a .args .f) (a .args .records .now) (a .args .step) (a .args .i) (a .args .p .0) (l .loop .k) small (l .loop .image) (l .loop .inv .2), omega arith)
 
 add-at : tie.Need-add-at Inv-loop μ-loop
 add-at c =

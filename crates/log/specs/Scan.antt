@@ -10,7 +10,7 @@ use lib.Dec.{eqb}
 use Rattle.field.specs.Test.{both, pick, given, there}
 use Rattle.field.specs.Bytes.{allZero, le2, le4}
 use Rattle.page.specs.Page.{rowsOf}
-use Rattle.log.specs.Record.{Rec, LB, LO, LI, LM, LE, check, begin, out, into, modify, end, lengthOf, carried, size}
+use Rattle.log.specs.Record.{typeAt, Rec, LB, LO, LI, LM, LE, check, begin, out, into, modify, end, lengthOf, carried, size}
 use Rattle.log.specs.Plan.{Step, takeOut, bringIn, point, close, plan}
 use Rattle.log.specs.Log.{Open, State, largest, largestMoved, beginOk, readBegin, readLog, atEnd, lastForced, first, readCheck}
 use Rattle.log.specs.Stand.{stands, standsIn, standsModify, standsOut, standsBegin}
@@ -143,7 +143,7 @@ unfoldable pub turned : (l : List ℕ) → Walk → Walk
 turned l w =
     let m : List ℕ = drop (w .at) l in
     let b : List ℕ = drop (w .begin) l in
-    pick (w .opened) (stepped w m (eqb (getD b 16 0) 1) (getD (plan (readBegin (w .unit .0) b)) (w .done) (close (w .unit .0))))
+    pick (w .opened) (stepped w m (eqb (getD b typeAt 0) 1) (getD (plan (readBegin (w .unit .0) b)) (w .done) (close (w .unit .0))))
     (pick (standsBegin (w .number .0 + 1) (w .unit .0 + 1) m) (begun w) lost)
 
 -- what a turn needs of the numbers

@@ -1,7 +1,7 @@
 // The constant table of the six record kinds: what every mark and every length of a record comes from.
 ghost use mathlib.Core.Path.{_≡_};
 ghost use Prim.Native.Nat.{_≤_, _<_};
-ghost use Rattle.log.specs.Record.{lengthOf};
+ghost use Rattle.log.specs.Record.{letter, lengthOf};
 ghost use lib.ListN.{getD};
 ghost use Rattle.log.specs.Table.{kinds, kindAt, tabled};
 
@@ -46,6 +46,9 @@ pub const KINDS: [u8; 24] = [
     0,
 ];
 
+// The longest record that is compared with one written: an LM's bytes.
+pub const COMPARED: usize = 28;
+
 // A number of the table, by its place.
 fn cell(i: usize) -> u8
     requires { ⌜ i < 24 ⌝ }
@@ -60,7 +63,15 @@ fn wide(x: u8) -> u16
     x as u16
 }
 
-// The mark's second letter of a kind; the first is always `L`.
+// The mark's first letter of a kind.
+pub fn lead(k: usize) -> u8
+    requires { ⌜ k < 6 ⌝ }
+    ensures { λ r. ⌜ r ≡ letter ⌝ }
+{
+    cell(4 * k)
+}
+
+// The mark's second letter of a kind.
 pub fn sign(k: usize) -> u8
     requires { ⌜ k < 6 ⌝ }
     ensures { λ r. ⌜ r ≡ kindAt k .sign ⌝ }

@@ -8,7 +8,7 @@ ghost use Rattle.field.specs.Test.{pick};
 ghost use Rattle.field.specs.Bytes.{starts};
 ghost use Rattle.page.specs.Page.{rowsOf, ascend};
 ghost use Rattle.log.specs.Log.{largest};
-ghost use Rattle.log.specs.Record.{LE, encodeCheck};
+ghost use Rattle.log.specs.Record.{check, LE, encodeCheck};
 ghost use Rattle.log.specs.Write.{checkOf};
 ghost use Rattle.log.specs.Stand.{stands, standsIn, standsModify, standsOut, standsBegin};
 use crate::kind;
@@ -44,7 +44,7 @@ pub fn is_end(l: &[u8], at: usize, n: LogNo, unit: UnitNo) -> bool
     if l.len() - at < long {
         return false;
     }
-    let mut b = [0u8; 28];
+    let mut b = [0u8; kind::COMPARED];
     writing::put_end(&mut b, 0, n, unit);
     same_at(l, at, &b, long)
 }
@@ -59,7 +59,7 @@ pub fn is_modify(l: &[u8], at: usize, n: LogNo, base: PageNo, old: PageNo, new: 
         return false;
     }
     let key = field::get4(l, at + 20);
-    let mut b = [0u8; 28];
+    let mut b = [0u8; kind::COMPARED];
     writing::put_modify(&mut b, 0, n, base, old, new, key);
     same_at(l, at, &b, long)
 }
@@ -73,12 +73,12 @@ pub fn is_in(l: &[u8], at: usize, n: LogNo, org: PageNo, dest: PageNo, back: u32
     if l.len() - at < long {
         return false;
     }
-    let mut b = [0u8; 28];
+    let mut b = [0u8; kind::COMPARED];
     writing::put_in(&mut b, 0, n, org, dest, rows, back);
     same_at(l, at, &b, long)
 }
 
-// Whether an LB of this unit stands at the front of m.
+// Whether an LB of this unit stands at the front of m. Of its bytes those are compared that an LE has too: header and unit number.
 pub fn is_begin(m: &[u8], n: LogNo, unit: UnitNo) -> bool
     ensures { λ r. ⌜ r ≡ standsBegin (n .0) (unit .0) (now (m .entry)) ⌝ }
 {
@@ -91,9 +91,9 @@ pub fn is_begin(m: &[u8], n: LogNo, unit: UnitNo) -> bool
     if !opening::spare_zero(m) {
         return false;
     }
-    let mut b = [0u8; 28];
+    let mut b = [0u8; kind::COMPARED];
     writing::put_unit(&mut b, 0, kind::LB, n, LogNo(0), unit);
-    same_at(m, 0, &b, 16)
+    same_at(m, 0, &b, kind::size_of(kind::LE, 0))
 }
 
 fn larger(a: u32, b: u32) -> u32
@@ -136,17 +136,17 @@ pub fn is_out(m: &[u8], n: LogNo, org: PageNo, dest: PageNo) -> bool
     if !form::records_ascend(m, fixed, k as usize) {
         return false;
     }
-    let mut b = [0u8; 28];
+    let mut b = [0u8; kind::COMPARED];
     writing::put_paged(&mut b, 0, kind::LO, k, n, org, dest, k);
     same_at(m, 0, &b, fixed)
 }
 
 // Whether the check record of these numbers stands at the front of l.
 pub fn is_check(l: &[u8], n: LogNo, unit: UnitNo, known: bool, key: u32) -> bool
-    requires { ⌜ 24 ≤ length (now l) ⌝ }
+    requires { ⌜ check .fixed ≤ length (now l) ⌝ }
     ensures { λ r. ⌜ r ≡ starts (encodeCheck (checkOf (n .0) (unit .0) known key)) (now (l .entry)) ⌝ }
 {
-    let mut b = [0u8; 28];
+    let mut b = [0u8; kind::COMPARED];
     writing::put_check(&mut b, n, unit, known, key);
     same_at(l, 0, &b, kind::size_of(kind::LC, 0))
 }

@@ -7,6 +7,7 @@ ghost use lib.ListN.{length, drop, getD};
 ghost use lib.Dec.{eqb};
 ghost use Rattle.field.specs.Test.{pick};
 ghost use Rattle.field.specs.Bytes.{le2};
+ghost use Rattle.log.specs.Record.{begin};
 ghost use Rattle.log.specs.Plan.{takeOut, bringIn, close, compactPlan, swapPlan, movePlan, plan};
 ghost use Rattle.log.specs.Log.{beginOk, readFields, readBegin};
 ghost use Rattle.log.specs.Steps.{stepOf};
@@ -126,17 +127,21 @@ fn skipped(first: PageNo, dest: PageNo) -> usize
 
 // The step i of a compact.
 pub fn compact_step(m: &[u8], unit: UnitNo, i: usize) -> Planned
-    requires { ⌜ (44 ≤ length (now m)) × (beginOk (readBegin (unit .0) (now m)) ≡ true) × (getD (now m) 16 0 ≡ 1) ⌝ }
+    requires { ⌜ (begin .fixed ≤ length (now m)) × (beginOk (readBegin (unit .0) (now m)) ≡ true) × (getD (now m) 16 0 ≡ 1) ⌝ }
     ensures { λ r. ⌜ stepOf r ≡ getD (compactPlan (le2 (now (m .entry)) 20) (le2 (now (m .entry)) 40) (readFields (getD (now (m .entry)) 19 0) (drop 24 (now (m .entry)))) ++ (close (unit .0) ∷ [])) i (close (unit .0)) ⌝ }
 {
-    let base = PageNo(field::get2(m, 20));
-    let first = PageNo(field::get2(m, 24));
-    let dest = PageNo(field::get2(m, 40));
-    let leaves = opening::byte_at(m, 19);
+    let base = PageNo(field::get2(m, opening::BASES_AT));
+    let first = PageNo(field::get2(m, opening::LEAVES_AT));
+    let dest = PageNo(field::get2(m, opening::DEST_AT));
+    let leaves = opening::byte_at(m, opening::LEAF_COUNT_AT);
     let skip = skipped(first, dest);
     let pairs = 2 * (leaves - skip);
     if i < pairs {
-        return gather_step(PageNo(field::get2(m, 24 + 2 * (i / 2 + skip))), dest, i);
+        return gather_step(
+            PageNo(field::get2(m, opening::LEAVES_AT + 2 * (i / 2 + skip))),
+            dest,
+            i,
+        );
     }
     let j = i - pairs + skip;
     if j == 0 {
@@ -150,7 +155,7 @@ pub fn compact_step(m: &[u8], unit: UnitNo, i: usize) -> Planned
     if j < leaves {
         return Planned::Point {
             base,
-            old: PageNo(field::get2(m, 24 + 2 * j)),
+            old: PageNo(field::get2(m, opening::LEAVES_AT + 2 * j)),
             new: PageNo(0),
             other: false,
         };
@@ -160,41 +165,41 @@ pub fn compact_step(m: &[u8], unit: UnitNo, i: usize) -> Planned
 
 // The base page of a swap's second leaf.
 fn second_base(m: &[u8]) -> PageNo
-    requires { ⌜ (44 ≤ length (now m)) × (1 ≤ getD (now m) 18 0) ⌝ }
+    requires { ⌜ (begin .fixed ≤ length (now m)) × (1 ≤ getD (now m) 18 0) ⌝ }
     ensures { λ r. ⌜ r .0 ≡ getD (readFields (getD (now (m .entry)) 18 0) (drop 20 (now (m .entry)))) 1 (le2 (now (m .entry)) 20) ⌝ }
 {
-    if opening::byte_at(m, 18) < 2 {
-        return PageNo(field::get2(m, 20));
+    if opening::byte_at(m, opening::BASE_COUNT_AT) < 2 {
+        return PageNo(field::get2(m, opening::BASES_AT));
     }
-    PageNo(field::get2(m, 22))
+    PageNo(field::get2(m, opening::BASES_AT + 2))
 }
 
 // The step i of a swap or a move.
 pub fn other_step(m: &[u8], unit: UnitNo, i: usize) -> Planned
-    requires { ⌜ (44 ≤ length (now m)) × (beginOk (readBegin (unit .0) (now m)) ≡ true) × (eqb (getD (now m) 16 0) 1 ≡ false) ⌝ }
+    requires { ⌜ (begin .fixed ≤ length (now m)) × (beginOk (readBegin (unit .0) (now m)) ≡ true) × (eqb (getD (now m) 16 0) 1 ≡ false) ⌝ }
     ensures { λ r. ⌜ stepOf r ≡ getD (plan (readBegin (unit .0) (now (m .entry)))) i (close (unit .0)) ⌝ }
 {
-    let base = PageNo(field::get2(m, 20));
-    let org = PageNo(field::get2(m, 24));
-    if opening::byte_at(m, 16) == 2 {
+    let base = PageNo(field::get2(m, opening::BASES_AT));
+    let org = PageNo(field::get2(m, opening::LEAVES_AT));
+    if opening::byte_at(m, opening::TYPE_AT) == 2 {
         return swap_step(
             base,
             second_base(m),
             org,
-            PageNo(field::get2(m, 26)),
+            PageNo(field::get2(m, opening::LEAVES_AT + 2)),
             unit,
             i,
         );
     }
-    move_step(base, org, PageNo(field::get2(m, 40)), unit, i)
+    move_step(base, org, PageNo(field::get2(m, opening::DEST_AT)), unit, i)
 }
 
 // The step i of the unit whose begin record stands at the front of m; past its end, the end.
 pub fn step_at(m: &[u8], unit: UnitNo, i: usize) -> Planned
-    requires { ⌜ (44 ≤ length (now m)) × (beginOk (readBegin (unit .0) (now m)) ≡ true) ⌝ }
+    requires { ⌜ (begin .fixed ≤ length (now m)) × (beginOk (readBegin (unit .0) (now m)) ≡ true) ⌝ }
     ensures { λ r. ⌜ stepOf r ≡ getD (plan (readBegin (unit .0) (now (m .entry)))) i (close (unit .0)) ⌝ }
 {
-    if opening::byte_at(m, 16) == 1 {
+    if opening::byte_at(m, opening::TYPE_AT) == 1 {
         return compact_step(m, unit, i);
     }
     other_step(m, unit, i)
@@ -202,17 +207,20 @@ pub fn step_at(m: &[u8], unit: UnitNo, i: usize) -> Planned
 
 // How many steps a unit has after its LB: of k leaves, 3 k - 2 in place and 3 k + 1 otherwise; a swap 7, a move 4.
 pub fn step_count(m: &[u8], unit: UnitNo) -> usize
-    requires { ⌜ (44 ≤ length (now m)) × (beginOk (readBegin (unit .0) (now m)) ≡ true) ⌝ }
+    requires { ⌜ (begin .fixed ≤ length (now m)) × (beginOk (readBegin (unit .0) (now m)) ≡ true) ⌝ }
     ensures { λ r. ⌜ r ≡ length (plan (readBegin (unit .0) (now (m .entry)))) ⌝ }
 {
-    let kind = opening::byte_at(m, 16);
+    let kind = opening::byte_at(m, opening::TYPE_AT);
     if kind == 2 {
         return 7;
     }
     if kind == 3 {
         return 4;
     }
-    let leaves = opening::byte_at(m, 19);
-    let skip = skipped(PageNo(field::get2(m, 24)), PageNo(field::get2(m, 40)));
+    let leaves = opening::byte_at(m, opening::LEAF_COUNT_AT);
+    let skip = skipped(
+        PageNo(field::get2(m, opening::LEAVES_AT)),
+        PageNo(field::get2(m, opening::DEST_AT)),
+    );
     3 * leaves + 1 - 3 * skip
 }

@@ -6,10 +6,11 @@ ghost use lib.ListN.{length, getD};
 ghost use Rattle.field.specs.Test.{pick};
 ghost use Rattle.field.specs.Bytes.{put};
 ghost use Rattle.page.specs.Page.{rowsOf};
-ghost use Rattle.log.specs.Record.{LB, LO, LM, LE, header, fields, newKey, encode, encodeCheck};
+ghost use Rattle.log.specs.Record.{letter, check, begin, out, into, modify, end, LB, LO, LM, LE, header, fields, newKey, encode, encodeCheck};
 ghost use Rattle.log.specs.Table.{kindAt};
 ghost use Rattle.log.specs.Write.{unitHead, paged, inBytes, checkOf, beginOf};
 use crate::kind;
+use crate::opening;
 use field::LogNo;
 use field::PageNo;
 use field::UnitNo;
@@ -17,10 +18,11 @@ use field::UnitNo;
 // The mark of the kind k.
 fn put_mark(s: &mut [u8], at: usize, k: usize)
     requires { ⌜ (k < 6) × (at + 2 ≤ length (now s)) ⌝ }
-    ensures { λ _. ⌜ now (s .exit) ≡ put at (76 ∷ kindAt k .sign ∷ []) (now (s .entry)) ⌝ }
+    ensures { λ _. ⌜ now (s .exit) ≡ put at (letter ∷ kindAt k .sign ∷ []) (now (s .entry)) ⌝ }
 {
+    let first = kind::lead(k);
     let second = kind::sign(k);
-    s[at] = b'L';
+    s[at] = first;
     s[at + 1] = second;
 }
 
@@ -37,7 +39,7 @@ fn put_header(s: &mut [u8], at: usize, k: usize, long: u16, n: LogNo, prior: Log
 
 // A header and a unit number: all of an LE, and the front of an LB.
 pub fn put_unit(s: &mut [u8], at: usize, k: usize, n: LogNo, prior: LogNo, unit: UnitNo)
-    requires { ⌜ (k < 6) × (at + 16 ≤ length (now s)) ⌝ }
+    requires { ⌜ (k < 6) × (at + end .fixed ≤ length (now s)) ⌝ }
     ensures { λ _. ⌜ now (s .exit) ≡ put at (unitHead (kindAt k) (n .0) (prior .0) (unit .0)) (now (s .entry)) ⌝ }
 {
     put_header(s, at, k, kind::length_of(k, 0), n, prior);
@@ -65,7 +67,7 @@ pub fn put_paged(
     b: PageNo,
     c: u16,
 )
-    requires { ⌜ (k < 6) × (rows ≤ 15) × (1 ≤ n .0) × (at + 20 ≤ length (now s)) ⌝ }
+    requires { ⌜ (k < 6) × (rows ≤ 15) × (1 ≤ n .0) × (at + out .fixed ≤ length (now s)) ⌝ }
     ensures { λ _. ⌜ now (s .exit) ≡ put at (paged (kindAt k) rows (n .0) (a .0) (b .0) c) (now (s .entry)) ⌝ }
 {
     put_header(s, at, k, kind::length_of(k, rows), n, earlier(n, 1));
@@ -77,7 +79,7 @@ pub fn put_paged(
 
 // An LI whose LO stands `back` records before and carried `rows` records.
 pub fn put_in(s: &mut [u8], at: usize, n: LogNo, org: PageNo, dest: PageNo, rows: u16, back: u32)
-    requires { ⌜ (1 ≤ n .0) × (at + 24 ≤ length (now s)) ⌝ }
+    requires { ⌜ (1 ≤ n .0) × (at + into .fixed ≤ length (now s)) ⌝ }
     ensures { λ _. ⌜ now (s .exit) ≡ put at (inBytes (n .0) (org .0) (dest .0) back rows) (now (s .entry)) ⌝ }
 {
     put_paged(s, at, kind::LI, 0, n, org, dest, rows);
@@ -104,7 +106,7 @@ pub fn put_modify(
     new: PageNo,
     key: u32,
 )
-    requires { ⌜ (1 ≤ n .0) × (at + 28 ≤ length (now s)) ⌝ }
+    requires { ⌜ (1 ≤ n .0) × (at + modify .fixed ≤ length (now s)) ⌝ }
     ensures { λ _. ⌜ now (s .exit) ≡ put at (encode (n .0) (LM (base .0) (old .0) (new .0) key)) (now (s .entry)) ⌝ }
 {
     put_paged(s, at, kind::LM, 0, n, base, old, new.0);
@@ -114,7 +116,7 @@ pub fn put_modify(
 
 // An LE.
 pub fn put_end(s: &mut [u8], at: usize, n: LogNo, unit: UnitNo)
-    requires { ⌜ (1 ≤ n .0) × (at + 16 ≤ length (now s)) ⌝ }
+    requires { ⌜ (1 ≤ n .0) × (at + end .fixed ≤ length (now s)) ⌝ }
     ensures { λ _. ⌜ now (s .exit) ≡ put at (encode (n .0) (LE (unit .0))) (now (s .entry)) ⌝ }
 {
     put_unit(s, at, kind::LE, n, earlier(n, 1), unit);
@@ -122,12 +124,12 @@ pub fn put_end(s: &mut [u8], at: usize, n: LogNo, unit: UnitNo)
 
 // An LO of the records rs, 16 bytes each.
 pub fn put_out(s: &mut [u8], at: usize, n: LogNo, org: PageNo, dest: PageNo, k: u16, rs: &[u8])
-    requires { ⌜ (k ≤ 15) × (1 ≤ n .0) × (at + 20 + 16 * k ≤ length (now s)) ⌝ }
-    requires { ⌜ length (now rs) ≡ 16 * k ⌝ }
+    requires { ⌜ (k ≤ 15) × (1 ≤ n .0) × (at + out .fixed + out .each * k ≤ length (now s)) ⌝ }
+    requires { ⌜ length (now rs) ≡ out .each * k ⌝ }
     ensures { λ _. ⌜ now (s .exit) ≡ put at (encode (n .0) (LO (org .0) (dest .0) (rowsOf 16 k (now (rs .entry))))) (now (s .entry)) ⌝ }
 {
     put_paged(s, at, kind::LO, k, n, org, dest, k);
-    field::copy(s, at + 20, rs);
+    field::copy(s, at + kind::size_of(kind::LO, 0), rs);
 }
 
 // The number where the test holds, else 0.
@@ -142,7 +144,7 @@ pub fn number_if(there: bool, v: u32) -> u32
 
 // A check record at the log's front.
 pub fn put_check(s: &mut [u8], n: LogNo, unit: UnitNo, there: bool, key: u32)
-    requires { ⌜ 24 ≤ length (now s) ⌝ }
+    requires { ⌜ check .fixed ≤ length (now s) ⌝ }
     ensures { λ _. ⌜ now (s .exit) ≡ put 0 (encodeCheck (checkOf (n .0) (unit .0) there key)) (now (s .entry)) ⌝ }
 {
     put_header(s, 0, kind::LC, kind::length_of(kind::LC, 0), n, LogNo(0));
@@ -196,20 +198,20 @@ pub fn put_begin(
     leaves: &[u16],
     dest: PageNo,
 )
-    requires { ⌜ (length (now bases) ≤ 2) × (length (now leaves) ≤ 8) × (at + 44 ≤ length (now s)) ⌝ }
+    requires { ⌜ (length (now bases) ≤ 2) × (length (now leaves) ≤ 8) × (at + begin .fixed ≤ length (now s)) ⌝ }
     ensures { λ _. ⌜ now (s .exit) ≡ put at (encode (n .0) (LB (beginOf (unit .0) kind fill (now (bases .entry)) (now (leaves .entry)) (dest .0)))) (now (s .entry)) ⌝ }
 {
     put_unit(s, at, kind::LB, n, LogNo(0), unit);
     put_counts(
         s,
-        at + 16,
+        at + opening::TYPE_AT,
         kind,
         fill,
         bases.len() as u8,
         leaves.len() as u8,
     );
-    put_fields(s, at + 20, bases, 2);
-    put_fields(s, at + 24, leaves, 8);
-    field::put2(s, at + 40, dest.0);
-    field::put2(s, at + 42, 0);
+    put_fields(s, at + opening::BASES_AT, bases, 2);
+    put_fields(s, at + opening::LEAVES_AT, leaves, 8);
+    field::put2(s, at + opening::DEST_AT, dest.0);
+    field::put2(s, at + opening::ZERO_AT, 0);
 }

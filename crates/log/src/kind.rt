@@ -18,36 +18,46 @@ pub const LM: usize = 4;
 
 pub const LE: usize = 5;
 
+// The fixed lengths of the kinds: of an LO, what stands before its records.
+pub const LC_LONG: usize = 24;
+
+pub const LB_LONG: usize = 44;
+
+pub const LO_LONG: usize = 20;
+
+pub const LI_LONG: usize = 24;
+
+pub const LM_LONG: usize = 28;
+
+pub const LE_LONG: usize = 16;
+
 // Four bytes a kind: the mark, the fixed length, the bytes of each record carried.
 pub const KINDS: [u8; 24] = [
     b'L',
     b'C',
-    24,
+    LC_LONG as u8,
     0,
     b'L',
     b'B',
-    44,
+    LB_LONG as u8,
     0,
     b'L',
     b'O',
-    20,
+    LO_LONG as u8,
     16,
     b'L',
     b'I',
-    24,
+    LI_LONG as u8,
     0,
     b'L',
     b'M',
-    28,
+    LM_LONG as u8,
     0,
     b'L',
     b'E',
-    16,
+    LE_LONG as u8,
     0,
 ];
-
-// The longest record that is compared with one written: an LM's bytes.
-pub const COMPARED: usize = 28;
 
 // A number of the table, by its place.
 fn cell(i: usize) -> u8

@@ -1,4 +1,5 @@
-// Whether a record stands at an offset of the log: the record that must stand there is written into a few bytes, and these are compared.
+// Whether a record stands at an offset of the log: the record that must stand there is written into a few bytes, as many as an LM has, the
+// longest, and these are compared.
 ghost use mathlib.Core.Path.{_≡_};
 ghost use mathlib.Core.Bool.{true};
 ghost use Prim.Native.Nat.{_+_, _-_, _*_, _%_, _≤_, _<_};
@@ -44,7 +45,7 @@ pub fn is_end(l: &[u8], at: usize, n: LogNo, unit: UnitNo) -> bool
     if l.len() - at < long {
         return false;
     }
-    let mut b = [0u8; kind::COMPARED];
+    let mut b = [0u8; kind::LM_LONG];
     writing::put_end(&mut b, 0, n, unit);
     same_at(l, at, &b, long)
 }
@@ -59,7 +60,7 @@ pub fn is_modify(l: &[u8], at: usize, n: LogNo, base: PageNo, old: PageNo, new: 
         return false;
     }
     let key = field::get4(l, at + 20);
-    let mut b = [0u8; kind::COMPARED];
+    let mut b = [0u8; kind::LM_LONG];
     writing::put_modify(&mut b, 0, n, base, old, new, key);
     same_at(l, at, &b, long)
 }
@@ -73,7 +74,7 @@ pub fn is_in(l: &[u8], at: usize, n: LogNo, org: PageNo, dest: PageNo, back: u32
     if l.len() - at < long {
         return false;
     }
-    let mut b = [0u8; kind::COMPARED];
+    let mut b = [0u8; kind::LM_LONG];
     writing::put_in(&mut b, 0, n, org, dest, rows, back);
     same_at(l, at, &b, long)
 }
@@ -91,7 +92,7 @@ pub fn is_begin(m: &[u8], n: LogNo, unit: UnitNo) -> bool
     if !opening::spare_zero(m) {
         return false;
     }
-    let mut b = [0u8; kind::COMPARED];
+    let mut b = [0u8; kind::LM_LONG];
     writing::put_unit(&mut b, 0, kind::LB, n, LogNo(0), unit);
     same_at(m, 0, &b, kind::size_of(kind::LE, 0))
 }
@@ -136,7 +137,7 @@ pub fn is_out(m: &[u8], n: LogNo, org: PageNo, dest: PageNo) -> bool
     if !form::records_ascend(m, fixed, k as usize) {
         return false;
     }
-    let mut b = [0u8; kind::COMPARED];
+    let mut b = [0u8; kind::LM_LONG];
     writing::put_paged(&mut b, 0, kind::LO, k, n, org, dest, k);
     same_at(m, 0, &b, fixed)
 }
@@ -146,7 +147,7 @@ pub fn is_check(l: &[u8], n: LogNo, unit: UnitNo, known: bool, key: u32) -> bool
     requires { ⌜ check .fixed ≤ length (now l) ⌝ }
     ensures { λ r. ⌜ r ≡ starts (encodeCheck (checkOf (n .0) (unit .0) known key)) (now (l .entry)) ⌝ }
 {
-    let mut b = [0u8; kind::COMPARED];
+    let mut b = [0u8; kind::LM_LONG];
     writing::put_check(&mut b, n, unit, known, key);
     same_at(l, 0, &b, kind::size_of(kind::LC, 0))
 }

@@ -14,6 +14,7 @@ ghost use Rattle.unit.specs.Again.{OutReads, InReads, PointReads, Reads,
 use crate::apply;
 use field::LogNo;
 use field::PageNo;
+use log::kind;
 use log::past;
 use log::scan;
 use log::scan::Walk;
@@ -26,7 +27,7 @@ fn out_again(work: &mut [u8], log: &[u8], w: Walk, org: PageNo) -> bool
     requires { ⌜ (length (now work) ≡ 16384) × (w .number .0 < 4294967295) × OutReads (now log) w (org .0) ⌝ }
     ensures { λ r. ⌜ ((dest : ℕ) → Did (repeat (w .number .0 + 1) (recordAt (now (log .entry)) w (takeOut (org .0) dest)) (now (work .entry))) (now (work .entry)) r (now (work .exit))) ⌝ }
 {
-    let at = w.at + 20;
+    let at = w.at + kind::LO_LONG;
     let k = field::get2(log, w.at + 16);
     let end = at + 16 * (k as usize);
     apply::repeat_out(work, org, &log[at..end], k, LogNo(w.number.0 + 1))
@@ -37,7 +38,7 @@ fn in_again(work: &mut [u8], log: &[u8], w: Walk, dest: PageNo, back: u32) -> bo
     requires { ⌜ (length (now work) ≡ 16384) × (w .number .0 < 4294967295) × InReads (now log) w (dest .0) back ⌝ }
     ensures { λ r. ⌜ ((org : ℕ) → Did (repeat (w .number .0 + 1) (recordAt (now (log .entry)) w (bringIn org (dest .0) back)) (now (work .entry))) (now (work .entry)) r (now (work .exit))) ⌝ }
 {
-    let at = source::source_at(w, back) + 20;
+    let at = source::source_at(w, back) + kind::LO_LONG;
     let k = source::source_rows(w, back);
     let end = at + 16 * (k as usize);
     apply::repeat_in(work, dest, &log[at..end], k, LogNo(w.number.0 + 1))

@@ -121,7 +121,7 @@ fn entry_at(w: &[u8], base: PageNo, old: PageNo, key: u32) -> u16
 {
     let at = 256 * (base.0 as usize);
     let rows = well::count_at(w, base.0 as usize);
-    entry::entry_with(&w[at..at + 256], rows, key, old.0)
+    entry::entry_with(&w[at..at + 256], rows, key, old)
 }
 
 // Whether an LM can be made: page base is a base page and has the entry with this key to page old, and where new is 0, another.

@@ -9,7 +9,6 @@ use crate::known;
 use crate::known::Answer;
 use crate::known::Numbers;
 use field::LogNo;
-use field::UnitNo;
 
 // Whether LK is there afterwards: it was, and is not to be cleared.
 fn stays(clear: bool, there: bool) -> bool
@@ -46,21 +45,22 @@ pub fn checkpoint(n: Numbers, work: &[u8], store: &[u8], log: &mut [u8], clear: 
     if !field::same_bytes(work, store) {
         return known::kept(n, 14);
     }
-    if 4294967295 <= w.number {
+    if 4294967295 <= w.number.0 {
         return known::kept(n, 7);
     }
+    let unit = w.unit;
     fresh::new_log(
         log,
-        LogNo(w.number + 1),
-        UnitNo(w.unit),
+        LogNo(w.number.0 + 1),
+        unit,
         stays(clear, w.known),
         w.lk,
     );
     Answer {
         reply: 0,
         numbers: Numbers {
-            used: 24,
-            forced: 24,
+            used: fresh::END,
+            forced: fresh::END,
         },
     }
 }

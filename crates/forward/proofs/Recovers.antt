@@ -154,7 +154,7 @@ module _ (w l : List ℕ) (v : Walk) (k : Found w l v) where
             refuses 8 a c u g (completing-is ∙ ap (recovered d (atEnd (found .log))) (x .is) ∙ unwell-is d (atEnd (found .log)) (x .state) w′ l′ t) s
 
       pub complete-accepts : (a c u g : ℕ) → reply ≡ 0 → wellFormed (pages w′) ≡ true
-          → (a ≡ 0) × (c ≡ v′ .number - v .number) × (u ≡ v′ .at) × (g ≡ v .at) → left a (c ∷ []) (lent u g w′ st l′ []) ≡ completing d w
+          → (a ≡ 0) × (c ≡ v′ .number .0 - v .number .0) × (u ≡ v′ .at) × (g ≡ v .at) → left a (c ∷ []) (lent u g w′ st l′ []) ≡ completing d w
       complete-accepts a c u g n t s =
           let x : Ended (finishing w l) v v′ w′ l′ = f .done n in
           rw (s .0, s .1, s .2, s .3)
@@ -230,14 +230,14 @@ module _ (used forced : ℕ) (work store log : List ℕ) where
           recover-form v c u f w i = blanks 3 v c u f w (recover-unformed given sized (read .log) (read .read) i)
 
           module _ (i : allFormed 0 (pages store) ≡ true) where
-            last-is : noneNewer (x .walk .number) (pages store) ≡ noneNewer (atEnd (read .log) .number) (pages store)
+            last-is : noneNewer (x .walk .number .0) (pages store) ≡ noneNewer (atEnd (read .log) .number) (pages store)
             last-is = ap (λ (n : ℕ). noneNewer n (pages store)) (number-is (atEnd (read .log)) (x .walk) (read .shows))
 
-            pub recover-ahead : (v c u f : ℕ) (w : List ℕ) → noneNewer (x .walk .number) (pages store) ≡ false → w ≡ zeroes 16384 → Says used forced 4 v c u f
+            pub recover-ahead : (v c u f : ℕ) (w : List ℕ) → noneNewer (x .walk .number .0) (pages store) ≡ false → w ≡ zeroes 16384 → Says used forced 4 v c u f
                 → left v (c ∷ []) (lent u f w store log []) ≡ recover given
             recover-ahead v c u f w n = blanks 4 v c u f w (recover-newer given sized (read .log) (read .read) i (sym last-is ∙ n))
 
-            module _ (n : noneNewer (x .walk .number) (pages store) ≡ true) (w₁ : List ℕ) (copied : w₁ ≡ put 0 store work) where
+            module _ (n : noneNewer (x .walk .number .0) (pages store) ≡ true) (w₁ : List ℕ) (copied : w₁ ≡ put 0 store work) where
               start : w₁ ≡ store
               start = copied ∙ put-whole store work (b ∙ sym a)
 

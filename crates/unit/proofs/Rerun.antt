@@ -3,7 +3,6 @@
 use Prim.Native.Nat.{ℕ, zero, suc, _+_, _-_, _≤_, _<_}
 use native.Mathlib.Omega.{arith}
 use mathlib.Core.Path.{_≡_, refl, sym, ap, _∙_, subst}
-use mathlib.Core.Logic.{⊎-elim}
 use mathlib.Core.Bool.{Bool, true, false, not, false≢true}
 use mathlib.Core.List.{List, [], _∷_}
 use mathlib.Core.Option.{Option, some, none}
@@ -28,7 +27,7 @@ use Rattle.log.proofs.Toward.{Toward, toward-first, toward-comes, toward-over, 
 use Rattle.unit.specs.Next.{target, changedAt, repeat, repeatAll}
 use Rattle.unit.specs.Made.{Did}
 use Rattle.unit.specs.Again.{Reads, nextStep, Ahead, redone, repeated, Repeated}
-use Rattle.unit.proofs.Places.{Leafy, StepKeeps, Keeping, no-step, one-more, plan-keeps}
+use Rattle.unit.proofs.Places.{StepKeeps, Keeping, no-step, one-more, plan-keeps}
 use Rattle.unit.proofs.Applied.{did-some}
 
 -- ---- one record, by numbers

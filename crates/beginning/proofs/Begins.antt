@@ -176,10 +176,10 @@ module _ (used forced : ℕ) (work log : List ℕ) (w : Walk) (c : Choice) (s : 
   at-is : w .at ≡ s .at
   at-is = shown-at w s e
 
-  number-is : w .number ≡ s .number
+  number-is : w .number .0 ≡ s .number
   number-is = shown-number w s e
 
-  unit-is : w .unit ≡ s .unit
+  unit-is : w .unit .0 ≡ s .unit
   unit-is = shown-unit w s e
 
   module _ (v u f : ℕ) where
@@ -189,17 +189,17 @@ module _ (used forced : ℕ) (work log : List ℕ) (w : Walk) (c : Choice) (s : 
     pub unit-room : (v ≡ 6) × (u ≡ used) × (f ≡ forced) → 8192 < w .at + long + bytes → kept ≡ meant
     unit-room q h = refused-as given-to 6 v u f meant (begun-room given-to s c (omega (arith, long-is, at-is))) q
 
-    pub unit-number : (v ≡ 7) × (u ≡ used) × (f ≡ forced) → w .at + long + bytes ≤ 8192 → 4294967295 < w .number + 1 + steps → kept ≡ meant
+    pub unit-number : (v ≡ 7) × (u ≡ used) × (f ≡ forced) → w .at + long + bytes ≤ 8192 → 4294967295 < w .number .0 + 1 + steps → kept ≡ meant
     unit-number q h n =
         refused-as given-to 7 v u f meant (begun-number given-to s c (omega (arith, long-is, at-is)) (omega (arith, number-is))) q
 
-    pub unit-last : (v ≡ 7) × (u ≡ used) × (f ≡ forced) → w .at + long + bytes ≤ 8192 → w .number + 1 + steps ≤ 4294967295 → 4294967295 ≤ w .unit → kept ≡ meant
+    pub unit-last : (v ≡ 7) × (u ≡ used) × (f ≡ forced) → w .at + long + bytes ≤ 8192 → w .number .0 + 1 + steps ≤ 4294967295 → 4294967295 ≤ w .unit .0 → kept ≡ meant
     unit-last q h n m =
         refused-as given-to 7 v u f meant
         (begun-unit given-to s c (omega (arith, long-is, at-is)) (omega (arith, number-is)) (omega (arith, unit-is))) q
 
-  pub unit-begun : w .at + long + bytes ≤ 8192 → w .number + 1 + steps ≤ 4294967295 → w .unit < 4294967295
-      → (l : List ℕ) → l ≡ put (w .at) (encode (w .number + 1) (LB (recordOf c (w .unit + 1)))) log
+  pub unit-begun : w .at + long + bytes ≤ 8192 → w .number .0 + 1 + steps ≤ 4294967295 → w .unit .0 < 4294967295
+      → (l : List ℕ) → l ≡ put (w .at) (encode (w .number .0 + 1) (LB (recordOf c (w .unit .0 + 1)))) log
       → left 0 [] (lent (w .at + long) forced work [] l []) ≡ meant
   unit-begun h n m l q =
       rw (q, long-is, at-is, number-is, unit-is)

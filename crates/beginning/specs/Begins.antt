@@ -18,7 +18,7 @@ unready opened w = need (not opened) 9 (need (allFormed 0 (pages w)) 3 (need (we
 
 -- the begin record of a chosen unit, by its number
 unfoldable pub recordOf : Choice → (unit : ℕ) → Begin
-recordOf c u = beginOf u (c .kind) (c .fill) (take (c .«base_count») (c .bases)) (take (c .«leaf_count») (c .leaves)) (c .dest)
+recordOf c u = beginOf u (c .kind) (c .fill) (take (c .«base_count») (c .bases)) (take (c .«leaf_count») (c .leaves)) (c .dest .0)
 
 -- the unit c can be written down: its lists are no longer than a record's, and what they say is in form
 pub record Writable (c : Choice) : Type 0 where

@@ -4,7 +4,7 @@ ghost use mathlib.Core.List.{[]};
 ghost use Prim.Native.Nat.{_+_, _≤_};
 ghost use lib.ListN.{length};
 ghost use Rattle.field.specs.Bytes.{put};
-ghost use Rattle.log.specs.Record.{LB, encode};
+ghost use Rattle.log.specs.Record.{begin, LB, encode};
 ghost use Rattle.log.specs.Plan.{plan};
 ghost use Rattle.log.specs.Log.{State};
 ghost use Rattle.log.specs.Scan.{shown};
@@ -48,27 +48,28 @@ fn put_lists(
     bases: [u16; 2],
     leaves: [u16; 8],
 )
-    requires { ⌜ Writable c × (at + 44 ≤ length (now s)) × (bases ≡ c .bases) × (leaves ≡ c .leaves) ⌝ }
+    requires { ⌜ Writable c × (at + begin .fixed ≤ length (now s)) × (bases ≡ c .bases) × (leaves ≡ c .leaves) ⌝ }
     ensures { λ _. ⌜ now (s .exit) ≡ put at (encode (n .0) (LB (recordOf c (unit .0)))) (now (s .entry)) ⌝ }
 {
     let i = c.base_count as usize;
     let j = c.leaf_count as usize;
+    let dest = c.dest;
     log::writing::put_begin(
         s,
         at,
-        n.0,
-        unit.0,
+        n,
+        unit,
         c.kind,
         c.fill,
         &bases[..i],
         &leaves[..j],
-        c.dest,
+        dest,
     );
 }
 
 // The LB of a chosen unit.
 fn put_record(s: &mut [u8], at: usize, n: LogNo, unit: UnitNo, c: Choice)
-    requires { ⌜ Writable c × (at + 44 ≤ length (now s)) ⌝ }
+    requires { ⌜ Writable c × (at + begin .fixed ≤ length (now s)) ⌝ }
     ensures { λ _. ⌜ now (s .exit) ≡ put at (encode (n .0) (LB (recordOf c (unit .0)))) (now (s .entry)) ⌝ }
 {
     let bases = c.bases;
@@ -81,9 +82,9 @@ fn needed(work: &[u8], c: Choice) -> Rest
     requires { ⌜ (length (now work) ≡ 16384) × Writable c ⌝ }
     ensures { λ r. ⌜ (r .bytes ≡ room (now (work .entry)) (plan (recordOf c 0))) × (r .steps ≡ length (plan (recordOf c 0))) ⌝ }
 {
-    let mut m = [0u8; 44];
+    let mut m = [0u8; kind::LB_LONG];
     put_record(&mut m, 0, LogNo(0), UnitNo(0), c);
-    unit::room::remaining(work, &m, 0, 0)
+    unit::room::remaining(work, &m, UnitNo(0), 0)
 }
 
 // Tests 6 and 7 for the whole unit, then its LB.
@@ -97,13 +98,13 @@ fn begun(n: Numbers, work: &[u8], log: &mut [u8], w: Walk, c: Choice) -> Answer
     if 8192 < end + rest.bytes {
         return known::kept(n, 6);
     }
-    if 4294967295 < w.number as usize + 1 + rest.steps {
+    if 4294967295 < w.number.0 as usize + 1 + rest.steps {
         return known::kept(n, 7);
     }
-    if 4294967295 <= w.unit {
+    if 4294967295 <= w.unit.0 {
         return known::kept(n, 7);
     }
-    put_record(log, w.at, LogNo(w.number + 1), UnitNo(w.unit + 1), c);
+    put_record(log, w.at, LogNo(w.number.0 + 1), UnitNo(w.unit.0 + 1), c);
     Answer {
         reply: 0,
         numbers: Numbers {

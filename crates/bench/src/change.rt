@@ -5,7 +5,6 @@ use crate::input::Number;
 use crate::output;
 use crate::state;
 use crate::state::State;
-use field::PageNo;
 
 // Carries out one of these commands.
 pub fn turn(at: State, letter: u8, work: &mut [u8], store: &mut [u8], log: &mut [u8]) -> State {
@@ -75,7 +74,7 @@ fn flush(at: State, work: &[u8], store: &mut [u8], log: &[u8]) -> State {
     let s = state::least(lent.store, store);
     let l = state::least(lent.log, log);
     let numbers = at.numbers;
-    let a = handed::flush(numbers, &work[..w], &mut store[..s], &log[..l], PageNo(p));
+    let a = handed::flush(numbers, &work[..w], &mut store[..s], &log[..l], p);
     output::replied(at, a)
 }
 

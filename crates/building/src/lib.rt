@@ -69,8 +69,8 @@ pub fn build(
     Answer {
         reply: 0,
         numbers: Numbers {
-            used: 24,
-            forced: 24,
+            used: fresh::END,
+            forced: fresh::END,
         },
     }
 }

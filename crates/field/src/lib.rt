@@ -5,9 +5,8 @@ ghost use lib.ListN.{length};
 ghost use lib.Dec.{eqb};
 ghost use Rattle.field.specs.Bytes.{part, put, zeroes, allZero, same, le2, le4, bytes2, bytes4};
 
-// The number of a page, of a log record and of a unit: none may stand where another is meant.
-#[repr(C)]
-pub struct PageNo(pub u32);
+// The number of a page, of a log record and of a unit: none may stand where another is meant. A page's is as wide as pages and log have it.
+pub struct PageNo(pub u16);
 
 pub struct LogNo(pub u32);
 

@@ -68,13 +68,13 @@ tested-ok end n e = let p = passes (leb end 8192) (leb n most4) e in (leb-true e
 
 -- what remains, as it is counted off the part of the log from the begin record on
 module _ (work l : List ℕ) (w : Walk) (bytes : ℕ)
-    (e : bytes ≡ room work (drop (w .done) (plan (readBegin (w .unit) (take (length l - w .begin) (drop (w .begin) l)))))) where
+    (e : bytes ≡ room work (drop (w .done) (plan (readBegin (w .unit .0) (take (length l - w .begin) (drop (w .begin) l)))))) where
   bytes-are : bytes ≡ room work (toCome l w)
   unfolding toCome
   bytes-are = e ∙ rw part-to-end
 
   module _ (long : length l ≡ 8192) (inside : w .at ≤ length l) where
-    pub admit-full : length l - w .at < bytes → 6 ≡ tested (w .at + room work (toCome l w)) (w .number + 1)
+    pub admit-full : length l - w .at < bytes → 6 ≡ tested (w .at + room work (toCome l w)) (w .number .0 + 1)
     unfolding tested
     admit-full h = sym (need-false _ 6 _ (lt-leb (w .at + room work (toCome l w)) 8192 (omega (arith, bytes-are))))
 
@@ -82,13 +82,13 @@ module _ (work l : List ℕ) (w : Walk) (bytes : ℕ)
       fits : leb (w .at + room work (toCome l w)) 8192 ≡ true
       fits = le-leb (w .at + room work (toCome l w)) 8192 (omega (arith, bytes-are))
 
-      pub admit-last : w .number ≡ 4294967295 → 7 ≡ tested (w .at + room work (toCome l w)) (w .number + 1)
+      pub admit-last : w .number .0 ≡ 4294967295 → 7 ≡ tested (w .at + room work (toCome l w)) (w .number .0 + 1)
       unfolding tested
-      admit-last k = sym (need-true _ 6 _ fits ∙ need-false _ 7 0 (lt-leb (w .number + 1) most4 (omega arith)))
+      admit-last k = sym (need-true _ 6 _ fits ∙ need-false _ 7 0 (lt-leb (w .number .0 + 1) most4 (omega arith)))
 
-      pub admit-ok : (w .number ≡ 4294967295 → ⊥) → w .number ≤ most4 → 0 ≡ tested (w .at + room work (toCome l w)) (w .number + 1)
+      pub admit-ok : (w .number .0 ≡ 4294967295 → ⊥) → w .number .0 ≤ most4 → 0 ≡ tested (w .at + room work (toCome l w)) (w .number .0 + 1)
       unfolding tested
-      admit-ok k small = sym (need-true _ 6 _ fits ∙ need-true _ 7 0 (le-leb (w .number + 1) most4 (below (w .number) k small)))
+      admit-ok k small = sym (need-true _ 6 _ fits ∙ need-true _ 7 0 (le-leb (w .number .0 + 1) most4 (below (w .number .0) k small)))
         where
           below : (n : ℕ) → (n ≡ 4294967295 → ⊥) → n ≤ 4294967295 → n + 1 ≤ 4294967295
           below n k small = split n 4294967295 (λ a. omega arith) (λ a. absurd (k (omega arith)))
@@ -128,40 +128,40 @@ module _ (work : List ℕ) {l : List ℕ} {w : Walk} (s : Stands l w) (x : Step)
       next-append ∙ given-none (nextRec x (didOf (atEnd (s .log) .opened)) (pageOf (targetOf x) work)) (stopped 5) _ (rw (did-is (atEnd (s .log)) (s .unit) (s .opened)) q)
 
   module _ (r : Rec) (q : recs ≡ some r) where
-    with-record : appendNext work l ≡ given (apply (w .number + 1) r work) (stopped 5) (λ v.
+    with-record : appendNext work l ≡ given (apply (w .number .0 + 1) r work) (stopped 5) (λ v.
         need (leb (w .at + room work (toCome l w)) 8192) (stopped 6)
-        (need (leb (w .number + 1) most4) (stopped 7) (went (after (atEnd (s .log)) r) v (put (w .at) (encode (w .number + 1) r) l))))
+        (need (leb (w .number .0 + 1) most4) (stopped 7) (went (after (atEnd (s .log)) r) v (put (w .at) (encode (w .number .0 + 1) r) l))))
     unfolding append
     with-record =
         next-append
         ∙ given-some (nextRec x (didOf (atEnd (s .log) .opened)) (pageOf (targetOf x) work)) r (stopped 5) _ (rw (did-is (atEnd (s .log)) (s .unit) (s .opened)) q)
         ∙ rw (ends-at, ← (number-is s), ← (at-is s))
 
-    pub append-stuck : there (apply (w .number + 1) r work) ≡ false → appendNext work l ≡ stopped 5
+    pub append-stuck : there (apply (w .number .0 + 1) r work) ≡ false → appendNext work l ≡ stopped 5
     append-stuck f = with-record ∙ given-none _ (stopped 5) _ (there-none _ f)
 
-    module _ (made : there (apply (w .number + 1) r work) ≡ true) where
-      pub append-stops : (k : ℕ) → k ≡ tested (w .at + room work (toCome l w)) (w .number + 1) → (k ≡ 0 → ⊥) → appendNext work l ≡ stopped k
+    module _ (made : there (apply (w .number .0 + 1) r work) ≡ true) where
+      pub append-stops : (k : ℕ) → k ≡ tested (w .at + room work (toCome l w)) (w .number .0 + 1) → (k ≡ 0 → ⊥) → appendNext work l ≡ stopped k
       unfolding tested
-      append-stops k e h = with-record ∙ by-change (apply (w .number + 1) r work) made
+      append-stops k e h = with-record ∙ by-change (apply (w .number .0 + 1) r work) made
         where
           by-change : (o : Option (List ℕ)) → there o ≡ true
               → given o (stopped 5) (λ v. need (leb (w .at + room work (toCome l w)) 8192) (stopped 6)
-              (need (leb (w .number + 1) most4) (stopped 7) (went (after (atEnd (s .log)) r) v (put (w .at) (encode (w .number + 1) r) l)))) ≡ stopped k
+              (need (leb (w .number .0 + 1) most4) (stopped 7) (went (after (atEnd (s .log)) r) v (put (w .at) (encode (w .number .0 + 1) r) l)))) ≡ stopped k
           by-change none t = absurd (false≢true (unfold there in t))
-          by-change (some v) t = unfold given in (stops (leb (w .at + room work (toCome l w)) 8192) (leb (w .number + 1) most4) _ k e h)
+          by-change (some v) t = unfold given in (stops (leb (w .at + room work (toCome l w)) 8192) (leb (w .number .0 + 1) most4) _ k e h)
 
-    pub append-goes : (v m : List ℕ) → tested (w .at + room work (toCome l w)) (w .number + 1) ≡ 0 → apply (w .number + 1) r work ≡ some v
-        → m ≡ put (w .at) (encode (w .number + 1) r) l → appendNext work l ≡ went (after (atEnd (s .log)) r) v m
+    pub append-goes : (v m : List ℕ) → tested (w .at + room work (toCome l w)) (w .number .0 + 1) ≡ 0 → apply (w .number .0 + 1) r work ≡ some v
+        → m ≡ put (w .at) (encode (w .number .0 + 1) r) l → appendNext work l ≡ went (after (atEnd (s .log)) r) v m
     append-goes v m e a p =
-        let t = tested-ok (w .at + room work (toCome l w)) (w .number + 1) e in
+        let t = tested-ok (w .at + room work (toCome l w)) (w .number .0 + 1) e in
         with-record ∙ given-some _ v (stopped 5) _ a ∙ need-true _ (stopped 6) _ (le-leb _ 8192 (t .0)) ∙ need-true _ (stopped 7) _ (le-leb _ most4 (t .1)) ∙ ap (went (after (atEnd (s .log)) r) v) (sym p)
 
   -- there is room for the record itself
-  pub record-room : tested (w .at + room work (toCome l w)) (w .number + 1) ≡ 0 → w .at + stepSize work x ≤ 8192
+  pub record-room : tested (w .at + room work (toCome l w)) (w .number .0 + 1) ≡ 0 → w .at + stepSize work x ≤ 8192
   unfolding room
   record-room e =
-      let t = tested-ok (w .at + room work (toCome l w)) (w .number + 1) e in
+      let t = tested-ok (w .at + room work (toCome l w)) (w .number .0 + 1) e in
       let r : room work (toCome l w) ≡ stepSize work x + room work (s .next .others) = rw (steps-are s, todo-is s x next) in
       omega (arith, t .0)
 
@@ -199,12 +199,12 @@ module _ (work : List ℕ) {l : List ℕ} {w : Walk} (s : Stands l w) (org dest 
     unfolding nextRec targetOf pageOf
     out-record = when-true _ _ h
 
-    pub out-stopped : (k : ℕ) → k ≡ tested (w .at + room work (toCome l w)) (w .number + 1) → (k ≡ 0 → ⊥) → Goes (appendNext work l) work l k work l
+    pub out-stopped : (k : ℕ) → k ≡ tested (w .at + room work (toCome l w)) (w .number .0 + 1) → (k ≡ 0 → ⊥) → Goes (appendNext work l) work l k work l
     out-stopped k e f =
         goes-stopped _ work l k
-        (append-stops work s (takeOut org dest) next _ out-record (there-some _ _ (out-own work org (w .number + 1) h _ refl dest)) k e f)
+        (append-stops work s (takeOut org dest) next _ out-record (there-some _ _ (out-own work org (w .number .0 + 1) h _ refl dest)) k e f)
 
-    module _ (k : ℕ) (e : k ≡ tested (w .at + room work (toCome l w)) (w .number + 1)) (f : k ≡ 0) (c : ℕ) (g : c ≡ count (page org work)) where
+    module _ (k : ℕ) (e : k ≡ tested (w .at + room work (toCome l w)) (w .number .0 + 1)) (f : k ≡ 0) (c : ℕ) (g : c ≡ count (page org work)) where
       pub out-few : c ≤ 15
       out-few = omega (arith, leaf-takes (page org work) h .few)
 
@@ -212,8 +212,8 @@ module _ (work : List ℕ) {l : List ℕ} {w : Walk} (s : Stands l w) (org dest 
       unfolding stepSize lengthOf
       out-room = let r : w .at + (20 + 16 * count (page org work)) ≤ 8192 = record-room work s (takeOut org dest) next (sym e ∙ f) in omega arith
 
-      pub out-goes : (v m : List ℕ) → length work ≡ 16384 → org < 64 → ((to : ℕ) → apply (w .number + 1) (LO org to (records (page org work))) work ≡ some v)
-          → m ≡ put (w .at) (encode (w .number + 1) (LO org dest (rowsOf 16 c (take (256 * org + 16 + 16 * c - (256 * org + 16)) (drop (256 * org + 16) work))))) l
+      pub out-goes : (v m : List ℕ) → length work ≡ 16384 → org < 64 → ((to : ℕ) → apply (w .number .0 + 1) (LO org to (records (page org work))) work ≡ some v)
+          → m ≡ put (w .at) (encode (w .number .0 + 1) (LO org dest (rowsOf 16 c (take (256 * org + 16 + 16 * c - (256 * org + 16)) (drop (256 * org + 16) work))))) l
           → Goes (appendNext work l) work l 0 v m
       unfolding rows page
       out-goes v m whole small a p =
@@ -226,7 +226,7 @@ module _ (work : List ℕ) {l : List ℕ} {w : Walk} (s : Stands l w) (org dest 
           rw (lent-part (256 * org + 16) (16 * c) work, ← two) one ∙ ap (λ (k : ℕ). rowsOf 16 k (drop 16 (page org work))) g in
           goes-went _ work l _ v m
           (append-goes work s (takeOut org dest) next _ out-record v m (sym e ∙ f) (a dest)
-          (p ∙ ap (λ (rs : List (List ℕ)). put (w .at) (encode (w .number + 1) (LO org dest rs)) l) q))
+          (p ∙ ap (λ (rs : List (List ℕ)). put (w .at) (encode (w .number .0 + 1) (LO org dest rs)) l) q))
 
 -- ---- LI
 
@@ -268,26 +268,26 @@ module _ (work : List ℕ) {l : List ℕ} {w : Walk} (s : Stands l w) (org dest 
     module _ (z : Bool) (can : (n org back : ℕ) → z ≡ there (apply n (LI org dest back (rowsOf 16 k (take (from + 20 + 16 * k - (from + 20)) (drop (from + 20) l)))) work)) where
       pub in-refused : not z ≡ true → Goes (appendNext work l) work l 5 work l
       in-refused h =
-          goes-stopped _ work l 5 (append-stuck work s (bringIn org dest back) next _ in-record (sym (can (w .number + 1) org back) ∙ not-true z h))
+          goes-stopped _ work l 5 (append-stuck work s (bringIn org dest back) next _ in-record (sym (can (w .number .0 + 1) org back) ∙ not-true z h))
 
-      module _ (h : not z ≡ false) (t : ℕ) (g : t ≡ tested (w .at + room work (toCome l w)) (w .number + 1)) where
+      module _ (h : not z ≡ false) (t : ℕ) (g : t ≡ tested (w .at + room work (toCome l w)) (w .number .0 + 1)) where
         pub in-stopped : (t ≡ 0 → ⊥) → Goes (appendNext work l) work l t work l
         in-stopped j =
-            goes-stopped _ work l t (append-stops work s (bringIn org dest back) next _ in-record (sym (can (w .number + 1) org back) ∙ not-false z h) t g j)
+            goes-stopped _ work l t (append-stops work s (bringIn org dest back) next _ in-record (sym (can (w .number .0 + 1) org back) ∙ not-false z h) t g j)
 
         pub in-goes : t ≡ 0 → (y : Bool) (v m : List ℕ)
-            → ((org back : ℕ) → Did (apply (w .number + 1) (LI org dest back (rowsOf 16 k (take (from + 20 + 16 * k - (from + 20)) (drop (from + 20) l)))) work) work y v)
-            → m ≡ put (w .at) (inBytes (w .number + 1) org dest back k) l → Goes (appendNext work l) work l 0 v m
+            → ((org back : ℕ) → Did (apply (w .number .0 + 1) (LI org dest back (rowsOf 16 k (take (from + 20 + 16 * k - (from + 20)) (drop (from + 20) l)))) work) work y v)
+            → m ≡ put (w .at) (inBytes (w .number .0 + 1) org dest back k) l → Goes (appendNext work l) work l 0 v m
         in-goes j y v m d p =
             let rs : List (List ℕ) = rowsOf 16 k (take (from + 20 + 16 * k - (from + 20)) (drop (from + 20) l)) in
             let n : length rs ≡ k = length-rowsOf 16 k _ in
-            let q : encode (w .number + 1) (LI org dest back rs) ≡ inBytes (w .number + 1) org dest back k =
-            encode-in (w .number + 1) org dest back rs ∙ ap (inBytes (w .number + 1) org dest back) n in
+            let q : encode (w .number .0 + 1) (LI org dest back rs) ≡ inBytes (w .number .0 + 1) org dest back k =
+            encode-in (w .number .0 + 1) org dest back rs ∙ ap (inBytes (w .number .0 + 1) org dest back) n in
             goes-went _ work l _ v m
             (append-goes work s (bringIn org dest back) next _ in-record v m (sym g ∙ j)
-            (did-made _ work y v (sym (can (w .number + 1) org back) ∙ not-false z h) (d org back)) (p ∙ ap (λ (bs : List ℕ). put (w .at) bs l) (sym q)))
+            (did-made _ work y v (sym (can (w .number .0 + 1) org back) ∙ not-false z h) (d org back)) (p ∙ ap (λ (bs : List ℕ). put (w .at) bs l) (sym q)))
 
-  pub in-room : tested (w .at + room work (toCome l w)) (w .number + 1) ≡ 0 → w .at + 24 ≤ 8192
+  pub in-room : tested (w .at + room work (toCome l w)) (w .number .0 + 1) ≡ 0 → w .at + 24 ≤ 8192
   unfolding stepSize lengthOf
   in-room e = record-room work s (bringIn org dest back) next e
 
@@ -318,7 +318,7 @@ module _ (work : List ℕ) {l : List ℕ} {w : Walk} (s : Stands l w) (base old 
         by-entry : (o : Option ℕ) → lowest ≡ o → appendNext work l ≡ stopped 5
         by-entry none q = append-none work s (point base old new other) next (point-none q)
         by-entry (some key) q =
-            append-stuck work s (point base old new other) next (LM base old new key) (point-record key q) (sym (can-page work base old new key z e h (w .number + 1)))
+            append-stuck work s (point base old new other) next (LM base old new key) (point-record key q) (sym (can-page work base old new key z e h (w .number .0 + 1)))
 
   module _ (r : Lowest) (e : keyIn r ≡ lowestTo (when other (w .key)) old (entries (page base work))) where
     taken-is : keyIn r ≡ lowest
@@ -336,22 +336,22 @@ module _ (work : List ℕ) {l : List ℕ} {w : Walk} (s : Stands l w) (base old 
       pub point-stuck : not z ≡ true → Goes (appendNext work l) work l 5 work l
       point-stuck h =
           goes-stopped _ work l 5
-          (append-stuck work s (point base old new other) next _ (point-record key point-is) (sym (can (w .number + 1)) ∙ not-true z h))
+          (append-stuck work s (point base old new other) next _ (point-record key point-is) (sym (can (w .number .0 + 1)) ∙ not-true z h))
 
-      module _ (h : not z ≡ false) (t : ℕ) (g : t ≡ tested (w .at + room work (toCome l w)) (w .number + 1)) where
+      module _ (h : not z ≡ false) (t : ℕ) (g : t ≡ tested (w .at + room work (toCome l w)) (w .number .0 + 1)) where
         pub point-stopped : (t ≡ 0 → ⊥) → Goes (appendNext work l) work l t work l
         point-stopped j =
             goes-stopped _ work l t
-            (append-stops work s (point base old new other) next _ (point-record key point-is) (sym (can (w .number + 1)) ∙ not-false z h) t g j)
+            (append-stops work s (point base old new other) next _ (point-record key point-is) (sym (can (w .number .0 + 1)) ∙ not-false z h) t g j)
 
-        pub point-goes : t ≡ 0 → (y : Bool) (v m : List ℕ) → Did (apply (w .number + 1) (LM base old new key) work) work y v
-            → m ≡ put (w .at) (encode (w .number + 1) (LM base old new key)) l → Goes (appendNext work l) work l 0 v m
+        pub point-goes : t ≡ 0 → (y : Bool) (v m : List ℕ) → Did (apply (w .number .0 + 1) (LM base old new key) work) work y v
+            → m ≡ put (w .at) (encode (w .number .0 + 1) (LM base old new key)) l → Goes (appendNext work l) work l 0 v m
         point-goes j y v m d p =
             goes-went _ work l _ v m
             (append-goes work s (point base old new other) next _ (point-record key point-is) v m (sym g ∙ j)
-            (did-made _ work y v (sym (can (w .number + 1)) ∙ not-false z h) d) p)
+            (did-made _ work y v (sym (can (w .number .0 + 1)) ∙ not-false z h) d) p)
 
-  pub point-room : tested (w .at + room work (toCome l w)) (w .number + 1) ≡ 0 → w .at + 28 ≤ 8192
+  pub point-room : tested (w .at + room work (toCome l w)) (w .number .0 + 1) ≡ 0 → w .at + 28 ≤ 8192
   unfolding stepSize lengthOf
   point-room e = record-room work s (point base old new other) next e
 
@@ -362,17 +362,17 @@ module _ (work : List ℕ) {l : List ℕ} {w : Walk} (s : Stands l w) (unit : �
   unfolding nextRec
   close-record = refl
 
-  close-made : apply (w .number + 1) (LE unit) work ≡ some work
+  close-made : apply (w .number .0 + 1) (LE unit) work ≡ some work
   unfolding apply target changedAt
   close-made = refl
 
-  module _ (t : ℕ) (g : t ≡ tested (w .at + room work (toCome l w)) (w .number + 1)) where
+  module _ (t : ℕ) (g : t ≡ tested (w .at + room work (toCome l w)) (w .number .0 + 1)) where
     pub close-stopped : (t ≡ 0 → ⊥) → Goes (appendNext work l) work l t work l
     close-stopped j = goes-stopped _ work l t (append-stops work s (close unit) next _ close-record (there-some _ _ close-made) t g j)
 
-    pub close-goes : t ≡ 0 → (m : List ℕ) → m ≡ put (w .at) (encode (w .number + 1) (LE unit)) l → Goes (appendNext work l) work l 0 work m
+    pub close-goes : t ≡ 0 → (m : List ℕ) → m ≡ put (w .at) (encode (w .number .0 + 1) (LE unit)) l → Goes (appendNext work l) work l 0 work m
     close-goes j m p = goes-went _ work l _ work m (append-goes work s (close unit) next _ close-record work m (sym g ∙ j) close-made p)
 
-  pub close-room : tested (w .at + room work (toCome l w)) (w .number + 1) ≡ 0 → w .at + 16 ≤ 8192
+  pub close-room : tested (w .at + room work (toCome l w)) (w .number .0 + 1) ≡ 0 → w .at + 16 ≤ 8192
   unfolding stepSize lengthOf
   close-room e = record-room work s (close unit) next e

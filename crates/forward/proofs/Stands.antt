@@ -3,7 +3,6 @@
 use Prim.Native.Nat.{ℕ, zero, suc, _+_, _-_, _≤_, _<_}
 use native.Mathlib.Omega.{arith}
 use mathlib.Core.Path.{_≡_, refl, sym, ap, _∙_, subst}
-use mathlib.Core.Logic.{_⊎_, ⊎-elim}
 use mathlib.Core.Bool.{Bool, true, false, false≢true}
 use mathlib.Core.List.{List, [], _∷_, _++_, reverse, reverseAux, reverseAux-eq}
 use mathlib.Core.Option.{Option, some, none}
@@ -14,6 +13,8 @@ use borrow.Rule.Slice.PartAt.{part-to-end}
 use Rattle.field.specs.Test.{pick, given, when}
 use Rattle.field.specs.Bytes.{Bytes, most4}
 use Rattle.field.proofs.Test.{pick-either}
+use Rattle.field.specs.declared.PageNo.{PageNo}
+use Rattle.field.specs.declared.UnitNo.{UnitNo}
 use Rattle.log.specs.Record.{Begin, Rec, LM, LE}
 use Rattle.log.specs.Plan.{Step, takeOut, bringIn, point, close, gather, removals, others, replacing, compactPlan, movePlan, swapPlan, plan}
 use Rattle.log.specs.Log.{Open, State, beginOk, readBegin, Log, readLog, atEnd}
@@ -28,7 +29,7 @@ use Rattle.log.proofs.Read.{readLog-facts}
 use Rattle.log.proofs.Held.{awaits}
 use Rattle.log.proofs.Toward.{Toward, Next, scanned-walk, toward-end, toward-next, shown-opened}
 use Rattle.unit.specs.Next.{keyBefore, skipped}
-use Rattle.unit.proofs.Places.{Leafy, StepKeeps, Keeping, one-more, OpenKeeps, end-keeps}
+use Rattle.unit.proofs.Places.{StepKeeps, Keeping, one-more, OpenKeeps, end-keeps}
 use Rattle.forward.specs.Appends.{Opened, toCome, nextStep}
 
 -- ---- the log that was read, and its open unit
@@ -73,7 +74,7 @@ shown-at : (s : State) → (shown s) .at ≡ s .at
 unfolding shown
 shown-at s = refl
 
-shown-number : (s : State) → (shown s) .number ≡ s .number
+shown-number : (s : State) → (shown s) .number .0 ≡ s .number
 unfolding shown
 shown-number s = refl
 
@@ -84,10 +85,10 @@ module _ {l : List ℕ} {w : Walk} (s : Stands l w) where
   pub at-is : w .at ≡ atEnd (s .log) .at
   at-is = ap (λ (x : Walk). x .at) (s .walk) ∙ shown-at (atEnd (s .log))
 
-  pub number-is : w .number ≡ atEnd (s .log) .number
-  number-is = ap (λ (x : Walk). x .number) (s .walk) ∙ shown-number (atEnd (s .log))
+  pub number-is : w .number .0 ≡ atEnd (s .log) .number
+  number-is = ap (λ (x : Walk). x .number .0) (s .walk) ∙ shown-number (atEnd (s .log))
 
-  pub number-few : w .number ≤ most4
+  pub number-few : w .number .0 ≤ most4
   number-few = omega (arith, number-is, s .toward .holds .sound .number)
 
   pub at-inside : w .at ≤ length l
@@ -96,10 +97,10 @@ module _ {l : List ℕ} {w : Walk} (s : Stands l w) where
   pub begin-room : w .begin + 44 ≤ length l
   begin-room = rw (s .walk) (s .next .room)
 
-  pub begin-ok : beginOk (readBegin (w .unit) (drop (w .begin) l)) ≡ true
+  pub begin-ok : beginOk (readBegin (w .unit .0) (drop (w .begin) l)) ≡ true
   begin-ok = rw (s .walk) (s .next .ok)
 
-  pub done-less : w .done < length (plan (readBegin (w .unit) (drop (w .begin) l)))
+  pub done-less : w .done < length (plan (readBegin (w .unit .0) (drop (w .begin) l)))
   done-less = rw (s .walk) (s .next .less)
 
   pub steps-are : toCome l w ≡ s .unit .todo
@@ -119,30 +120,26 @@ module _ {l : List ℕ} {w : Walk} (s : Stands l w) where
 
 -- the next step, as the code reads it off the part of the log from the begin record on
 module _ (l : List ℕ) (w : Walk) (x : Planned)
-    (e : stepOf x ≡ getD (plan (readBegin (w .unit) (take (length l - w .begin) (drop (w .begin) l)))) (w .done) (close (w .unit))) where
+    (e : stepOf x ≡ getD (plan (readBegin (w .unit .0) (take (length l - w .begin) (drop (w .begin) l)))) (w .done) (close (w .unit .0))) where
   pub step-read : nextStep l w ≡ stepOf x
   unfolding nextStep
   step-read = sym (e ∙ rw part-to-end)
 
-  pub next-out : {org dest : ℕ} → x ≡ Out org dest → nextStep l w ≡ takeOut org dest
+  pub next-out : {org dest : PageNo} → x ≡ Out org dest → nextStep l w ≡ takeOut (org .0) (dest .0)
   unfolding stepOf
   next-out q = step-read ∙ rw q
 
-  pub next-in : {org dest back : ℕ} → x ≡ In org dest back → nextStep l w ≡ bringIn org dest back
+  pub next-in : {org dest : PageNo} {back : ℕ} → x ≡ In org dest back → nextStep l w ≡ bringIn (org .0) (dest .0) back
   unfolding stepOf
   next-in q = step-read ∙ rw q
 
-  pub next-point : {base old new : ℕ} {other : Bool} → x ≡ Point base old new other → nextStep l w ≡ point base old new other
+  pub next-point : {base old new : PageNo} {other : Bool} → x ≡ Point base old new other → nextStep l w ≡ point (base .0) (old .0) (new .0) other
   unfolding stepOf
   next-point q = step-read ∙ rw q
 
-  pub next-close : {unit : ℕ} → x ≡ Close unit → nextStep l w ≡ close unit
+  pub next-close : {unit : UnitNo} → x ≡ Close unit → nextStep l w ≡ close (unit .0)
   unfolding stepOf
   next-close q = step-read ∙ rw q
-
--- an LM points to one of the 64 pages, or removes
-pub point-small : (new : ℕ) → (new ≡ 0) ⊎ Leafy new → new < 64
-point-small new h = ⊎-elim (λ (z : new ≡ 0). omega arith) (λ (k : Leafy new). omega (arith, k .1)) h
 
 -- ---- a step that is not to take the entry of the LM before stands behind an LM
 

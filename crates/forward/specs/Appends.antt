@@ -53,10 +53,10 @@ pub record Opened (l : List ℕ) (w : Walk) : Type 0 where
 
 -- the unit's steps to come, and the next of them
 unfoldable pub toCome : (l : List ℕ) → Walk → List Step
-toCome l w = drop (w .done) (plan (readBegin (w .unit) (drop (w .begin) l)))
+toCome l w = drop (w .done) (plan (readBegin (w .unit .0) (drop (w .begin) l)))
 
 unfoldable pub nextStep : (l : List ℕ) → Walk → Step
-nextStep l w = getD (plan (readBegin (w .unit) (drop (w .begin) l))) (w .done) (close (w .unit))
+nextStep l w = getD (plan (readBegin (w .unit .0) (drop (w .begin) l))) (w .done) (close (w .unit .0))
 
 -- tests 6 and 7: the log's end once all that remains is appended, and the record's number; the reply, 0 where both hold
 unfoldable pub tested : (end number : ℕ) → ℕ

@@ -9,6 +9,8 @@ ghost use Rattle.unit.specs.Next.{room};
 ghost use Rattle.forward.specs.Appends.{appendNext, Goes, Opened, toCome, nextStep, tested};
 use field::LogNo;
 use field::PageNo;
+use field::UnitNo;
+use log::kind;
 use log::scan::Walk;
 use log::source;
 use log::steps;
@@ -24,25 +26,25 @@ use unit::room;
 // Tests 6 and 7: the log can hold what remains of the unit, and the record has a number. The reply, 0 where both hold.
 fn admitted(work: &[u8], log: &[u8], w: Walk) -> u8
     requires { ⌜ (length (now work) ≡ 16384) × (length (now log) ≡ 8192) × Opened (now log) w ⌝ }
-    ensures { λ r. ⌜ r ≡ tested (w .at + room (now (work .entry)) (toCome (now (log .entry)) w)) (w .number + 1) ⌝ }
+    ensures { λ r. ⌜ r ≡ tested (w .at + room (now (work .entry)) (toCome (now (log .entry)) w)) (w .number .0 + 1) ⌝ }
 {
     let begin = w.begin;
     let rest = room::remaining(work, &log[begin..], w.unit, w.done);
     if log.len() - w.at < rest.bytes {
         return 6;
     }
-    if w.number == 4294967295 {
+    if w.number.0 == 4294967295 {
         return 7;
     }
     0
 }
 
 // An LO: page org must be a leaf; it carries all its records.
-fn append_out(work: &mut [u8], log: &mut [u8], w: Walk, org: u16, dest: u16) -> u8
-    requires { ⌜ (length (now work) ≡ 16384) × (length (now log) ≡ 8192) × Opened (now log) w × (nextStep (now log) w ≡ takeOut org dest) ⌝ }
+fn append_out(work: &mut [u8], log: &mut [u8], w: Walk, org: PageNo, dest: PageNo) -> u8
+    requires { ⌜ (length (now work) ≡ 16384) × (length (now log) ≡ 8192) × Opened (now log) w × (nextStep (now log) w ≡ takeOut (org .0) (dest .0)) ⌝ }
     ensures { λ r. ⌜ Goes (appendNext (now (work .entry)) (now (log .entry))) (now (work .entry)) (now (log .entry)) r (now (work .exit)) (now (log .exit)) ⌝ }
 {
-    let from = 256 * (org as usize);
+    let from = 256 * (org.0 as usize);
     if !form::is_leaf(&work[from..from + 256]) {
         return 5;
     }
@@ -50,32 +52,32 @@ fn append_out(work: &mut [u8], log: &mut [u8], w: Walk, org: u16, dest: u16) -> 
     if reply != 0 {
         return reply;
     }
-    let n = w.number + 1;
-    let k = well::count_at(work, org as usize);
+    let n = LogNo(w.number.0 + 1);
+    let k = well::count_at(work, org.0 as usize);
     let first = from + 16;
     let end = first + 16 * (k as usize);
     writing::put_out(log, w.at, n, org, dest, k, &work[first..end]);
-    apply::take_all(work, PageNo(org as u32), LogNo(n));
+    apply::take_all(work, org, n);
     0
 }
 
 // An LI: the records are those of its LO, which stands in the log `back` records before.
-fn append_in(work: &mut [u8], log: &mut [u8], w: Walk, org: u16, dest: u16, back: u32) -> u8
-    requires { ⌜ (length (now work) ≡ 16384) × (length (now log) ≡ 8192) × Opened (now log) w × (nextStep (now log) w ≡ bringIn org dest back) ⌝ }
+fn append_in(work: &mut [u8], log: &mut [u8], w: Walk, org: PageNo, dest: PageNo, back: u32) -> u8
+    requires { ⌜ (length (now work) ≡ 16384) × (length (now log) ≡ 8192) × Opened (now log) w × (nextStep (now log) w ≡ bringIn (org .0) (dest .0) back) ⌝ }
     ensures { λ r. ⌜ Goes (appendNext (now (work .entry)) (now (log .entry))) (now (work .entry)) (now (log .entry)) r (now (work .exit)) (now (log .exit)) ⌝ }
 {
     let k = source::source_rows(w, back);
-    let first = source::source_at(w, back) + 20;
+    let first = source::source_at(w, back) + kind::LO_LONG;
     let end = first + 16 * (k as usize);
-    if !apply::can_bring_in(work, PageNo(dest as u32), &log[first..end], k) {
+    if !apply::can_bring_in(work, dest, &log[first..end], k) {
         return 5;
     }
     let reply = admitted(work, log, w);
     if reply != 0 {
         return reply;
     }
-    let n = w.number + 1;
-    apply::bring_in(work, PageNo(dest as u32), &log[first..end], k, LogNo(n));
+    let n = LogNo(w.number.0 + 1);
+    apply::bring_in(work, dest, &log[first..end], k, n);
     writing::put_in(log, w.at, n, org, dest, k, back);
     0
 }
@@ -85,44 +87,44 @@ fn append_point(
     work: &mut [u8],
     log: &mut [u8],
     w: Walk,
-    base: u16,
-    old: u16,
-    new: u16,
+    base: PageNo,
+    old: PageNo,
+    new: PageNo,
     other: bool,
 ) -> u8
-    requires { ⌜ (length (now work) ≡ 16384) × (length (now log) ≡ 8192) × Opened (now log) w × (nextStep (now log) w ≡ point base old new other) ⌝ }
+    requires { ⌜ (length (now work) ≡ 16384) × (length (now log) ≡ 8192) × Opened (now log) w × (nextStep (now log) w ≡ point (base .0) (old .0) (new .0) other) ⌝ }
     ensures { λ r. ⌜ Goes (appendNext (now (work .entry)) (now (log .entry))) (now (work .entry)) (now (log .entry)) r (now (work .exit)) (now (log .exit)) ⌝ }
 {
-    let from = 256 * (base as usize);
+    let from = 256 * (base.0 as usize);
     if !form::is_base(&work[from..from + 256]) {
         return 5;
     }
-    let Lowest::Key(key) = entry::lowest_at(work, base as usize, old, other, w.key) else {
+    let Lowest::Key(key) = entry::lowest_at(work, base, old, other, w.key) else {
         return 5;
     };
-    if !apply::can_modify(work, PageNo(base as u32), old, new, key) {
+    if !apply::can_modify(work, base, old, new, key) {
         return 5;
     }
     let reply = admitted(work, log, w);
     if reply != 0 {
         return reply;
     }
-    let n = w.number + 1;
-    apply::modify(work, PageNo(base as u32), old, new, key, LogNo(n));
+    let n = LogNo(w.number.0 + 1);
+    apply::modify(work, base, old, new, key, n);
     writing::put_modify(log, w.at, n, base, old, new, key);
     0
 }
 
 // An LE.
-fn append_close(work: &mut [u8], log: &mut [u8], w: Walk, unit: u32) -> u8
-    requires { ⌜ (length (now work) ≡ 16384) × (length (now log) ≡ 8192) × Opened (now log) w × (nextStep (now log) w ≡ close unit) ⌝ }
+fn append_close(work: &mut [u8], log: &mut [u8], w: Walk, unit: UnitNo) -> u8
+    requires { ⌜ (length (now work) ≡ 16384) × (length (now log) ≡ 8192) × Opened (now log) w × (nextStep (now log) w ≡ close (unit .0)) ⌝ }
     ensures { λ r. ⌜ Goes (appendNext (now (work .entry)) (now (log .entry))) (now (work .entry)) (now (log .entry)) r (now (work .exit)) (now (log .exit)) ⌝ }
 {
     let reply = admitted(work, log, w);
     if reply != 0 {
         return reply;
     }
-    writing::put_end(log, w.at, w.number + 1, unit);
+    writing::put_end(log, w.at, LogNo(w.number.0 + 1), unit);
     0
 }
 

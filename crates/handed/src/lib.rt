@@ -7,7 +7,6 @@ ghost use Rattle.field.specs.Test.{pick};
 ghost use Rattle.store.specs.Calls.{lent, left, build, recover, beginCompact, beginOrder, step, flush, force, checkpoint, find, list};
 use answering::FindAnswer;
 use answering::ListAnswer;
-use field::PageNo;
 use recovering::RecoverAnswer;
 use store::Answer;
 use store::Numbers;
@@ -76,9 +75,9 @@ pub fn step(n: Numbers, work: &mut [u8], log: &mut [u8]) -> Answer
 }
 
 // One work page is written to the store, where its last change is forced.
-pub fn flush(n: Numbers, work: &[u8], store: &mut [u8], log: &[u8], p: PageNo) -> Answer
+pub fn flush(n: Numbers, work: &[u8], store: &mut [u8], log: &[u8], p: u32) -> Answer
     ensures flushed { λ r. ⌜ left (r .reply) [] (lent (r .numbers .used) (r .numbers .forced) (now (work .entry)) (now (store .exit)) (now (log .entry)) [])
-        ≡ flush (p .0) (lent (n .used) (n .forced) (now (work .entry)) (now (store .entry)) (now (log .entry)) []) ⌝ }
+        ≡ flush p (lent (n .used) (n .forced) (now (work .entry)) (now (store .entry)) (now (log .entry)) []) ⌝ }
 {
     let mut m = n;
     let reply = lent::uhtlight_flush(&mut m, work, store, log, p);

@@ -47,12 +47,12 @@ module _ (used forced : ℕ) (work store log : List ℕ) (p : ℕ) where
             refused-as d 12 v u f (flush p d) (flush-range p d (three-sized d a b c) (g .log) (g .is) h) s
 
         module _ (h : p < 64) (n : ℕ) (i : n ≡ number (page p work)) where
-          pub flush-early : Kept 13 → t .forced < n → got store ≡ flush p d
+          pub flush-early : Kept 13 → t .forced .0 < n → got store ≡ flush p d
           flush-early s q =
               let g : Knows d t = knows-yes d t e k in
-              refused-as d 13 v u f (flush p d) (flush-ahead p d (three-sized d a b c) (g .log) (g .is) h (t .forced) (g .forced) (rw i at q)) s
+              refused-as d 13 v u f (flush p d) (flush-ahead p d (three-sized d a b c) (g .log) (g .is) h (t .forced .0) (g .forced) (rw i at q)) s
 
-          pub flush-all : Kept 0 → n ≤ t .forced → (s′ : List ℕ) → s′ ≡ putPage p (page p work) store → got s′ ≡ flush p d
+          pub flush-all : Kept 0 → n ≤ t .forced .0 → (s′ : List ℕ) → s′ ≡ putPage p (page p work) store → got s′ ≡ flush p d
           flush-all s q s′ o =
               let g : Knows d t = knows-yes d t e k in
-              rw (s .0, s .1, s .2, o) (sym (flush-flushes p d (three-sized d a b c) (g .log) (g .is) h (t .forced) (g .forced) (rw i at q)))
+              rw (s .0, s .1, s .2, o) (sym (flush-flushes p d (three-sized d a b c) (g .log) (g .is) h (t .forced .0) (g .forced) (rw i at q)))

@@ -59,23 +59,23 @@ module _ (used forced : ℕ) (work store log : List ℕ) (clear : Bool) where
             refused-as d 14 v u f (checkpoint clear d) (checkpoint-differs clear d (three-sized d a b c) (g .log) (g .is) (is-shut d t g o) q) s
 
         module _ (q : same work store ≡ true) where
-          pub checkpoint-most : (v u f : ℕ) → Kept v u f 7 → 4294967295 ≤ t .walk .number → got v u f ≡ checkpoint clear d
+          pub checkpoint-most : (v u f : ℕ) → Kept v u f 7 → 4294967295 ≤ t .walk .number .0 → got v u f ≡ checkpoint clear d
           checkpoint-most v u f s h =
               let g : Knows d t = knows-yes d t e k in
-              let m : t .walk .number ≡ atEnd (g .log) .number = end-number d t g in
+              let m : t .walk .number .0 ≡ atEnd (g .log) .number = end-number d t g in
               let n : most4 < atEnd (g .log) .number + 1 = omega arith in
               refused-as d 7 v u f (checkpoint clear d) (checkpoint-last clear d (three-sized d a b c) (g .log) (g .is) (is-shut d t g o) q n) s
 
           -- the check record that the code writes is the one meant
-          check-is : (g : Knows d t) → checkOf (t .walk .number + 1) (t .walk .unit) (pick clear false (t .walk .known)) (t .walk .lk) ≡ checkpointed clear (atEnd (g .log))
+          check-is : (g : Knows d t) → checkOf (t .walk .number .0 + 1) (t .walk .unit .0) (pick clear false (t .walk .known)) (t .walk .lk) ≡ checkpointed clear (atEnd (g .log))
           unfolding checkOf checkpointed
           check-is g = rw (end-number d t g, end-unit d t g, end-cleared d t g clear)
 
-          pub checkpoint-all : t .walk .number < 4294967295 → (there : Bool) → there ≡ pick clear false (t .walk .known)
-              → (l : List ℕ) → l ≡ newLog (checkOf (t .walk .number + 1) (t .walk .unit) there (t .walk .lk))
+          pub checkpoint-all : t .walk .number .0 < 4294967295 → (there : Bool) → there ≡ pick clear false (t .walk .known)
+              → (l : List ℕ) → l ≡ newLog (checkOf (t .walk .number .0 + 1) (t .walk .unit .0) there (t .walk .lk))
               → left 0 [] (lent 24 24 work store l []) ≡ checkpoint clear d
           checkpoint-all h there i l j =
               let g : Knows d t = knows-yes d t e k in
-              let m : t .walk .number ≡ atEnd (g .log) .number = end-number d t g in
+              let m : t .walk .number .0 ≡ atEnd (g .log) .number = end-number d t g in
               let n : atEnd (g .log) .number + 1 ≤ most4 = omega arith in
               rw (j, i, check-is g) (sym (checkpoint-done clear d (three-sized d a b c) (g .log) (g .is) (is-shut d t g o) q n))

@@ -5,7 +5,6 @@ ghost use mathlib.Core.List.{[]};
 ghost use Rattle.field.specs.Test.{pick};
 ghost use Rattle.store.specs.Calls.{lent, left, checkpoint};
 use field::LogNo;
-use field::UnitNo;
 use store::fresh;
 use store::known;
 use store::known::Answer;
@@ -46,21 +45,22 @@ pub fn checkpoint(n: Numbers, work: &[u8], store: &[u8], log: &mut [u8], clear: 
     if !field::same_bytes(work, store) {
         return known::kept(n, 14);
     }
-    if 4294967295 <= w.number {
+    if 4294967295 <= w.number.0 {
         return known::kept(n, 7);
     }
+    let unit = w.unit;
     fresh::new_log(
         log,
-        LogNo(w.number + 1),
-        UnitNo(w.unit),
+        LogNo(w.number.0 + 1),
+        unit,
         stays(clear, w.known),
         w.lk,
     );
     Answer {
         reply: 0,
         numbers: Numbers {
-            used: 24,
-            forced: 24,
+            used: fresh::END,
+            forced: fresh::END,
         },
     }
 }

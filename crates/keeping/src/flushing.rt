@@ -30,10 +30,10 @@ fn copy_page(work: &[u8], store: &mut [u8], p: PageNo)
     field::copy(store, at, &work[at..at + 256]);
 }
 
-// One work page is written to the store, where its last change is forced.
-pub fn flush(n: Numbers, work: &[u8], store: &mut [u8], log: &[u8], p: PageNo) -> Answer
+// One work page is written to the store, where its last change is forced; p may be no page's number, which test 12 says.
+pub fn flush(n: Numbers, work: &[u8], store: &mut [u8], log: &[u8], p: u32) -> Answer
     ensures flushed { λ r. ⌜ left (r .reply) [] (lent (r .numbers .used) (r .numbers .forced) (now (work .entry)) (now (store .exit)) (now (log .entry)) [])
-        ≡ flush (p .0) (lent (n .used) (n .forced) (now (work .entry)) (now (store .entry)) (now (log .entry)) []) ⌝ }
+        ≡ flush p (lent (n .used) (n .forced) (now (work .entry)) (now (store .entry)) (now (log .entry)) []) ⌝ }
 {
     if work.len() != 16384 {
         return known::kept(n, 1);
@@ -48,13 +48,14 @@ pub fn flush(n: Numbers, work: &[u8], store: &mut [u8], log: &[u8], p: PageNo) -
     if !known::knows(s, n.used) {
         return known::kept(n, 2);
     }
-    if 64 <= p.0 {
+    if 64 <= p {
         return known::kept(n, 12);
     }
-    let last = number_at(work, p);
-    if s.forced < last.0 {
+    let page = PageNo(p as u16);
+    let last = number_at(work, page);
+    if s.forced.0 < last.0 {
         return known::kept(n, 13);
     }
-    copy_page(work, store, p);
+    copy_page(work, store, page);
     known::kept(n, 0)
 }

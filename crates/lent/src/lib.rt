@@ -6,7 +6,6 @@ ghost use mathlib.Core.List.{[], _∷_};
 ghost use Rattle.field.specs.Test.{pick};
 ghost use Rattle.store.specs.Calls.{lent, left, build, recover, beginCompact, beginOrder, step, flush, force, checkpoint, find, list};
 use answering::Listed;
-use field::PageNo;
 use recovering::Recovered;
 use store::Numbers;
 use tree::find::Found;
@@ -91,10 +90,10 @@ pub extern "C" fn uhtlight_flush(
     work: &[u8],
     store: &mut [u8],
     log: &[u8],
-    p: PageNo,
+    p: u32,
 ) -> u8
     ensures flushed { λ r. ⌜ left r [] (lent (now (n .exit) .used) (now (n .exit) .forced) (now (work .entry)) (now (store .exit)) (now (log .entry)) [])
-        ≡ flush (p .0) (lent (now (n .entry) .used) (now (n .entry) .forced) (now (work .entry)) (now (store .entry)) (now (log .entry)) []) ⌝ }
+        ≡ flush p (lent (now (n .entry) .used) (now (n .entry) .forced) (now (work .entry)) (now (store .entry)) (now (log .entry)) []) ⌝ }
 {
     let a = keeping::flush(*n, work, store, log, p);
     *n = a.numbers;

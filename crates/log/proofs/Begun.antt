@@ -219,10 +219,10 @@ module _ (m : List ℕ) where
         pub begin-spare! : (x : Bool) → x ≡ spareZero m → not x ≡ true → false ≡ standsBegin n u m
         begin-spare! x q g = sym (found ∙ both-none _ _ (sym q ∙ not-true x g))
 
-        pub begin-whole! : (x : Bool) → x ≡ spareZero m → not x ≡ false → (w : Bool) (b c : List ℕ) → w ≡ starts (take 16 b) (drop 0 m)
+        pub begin-whole! : (x : Bool) → x ≡ spareZero m → not x ≡ false → (e : ℕ) → e ≡ lengthOf (kindAt 5) 0 → (w : Bool) (b c : List ℕ) → w ≡ starts (take e b) (drop 0 m)
             → b ≡ put 0 (unitHead (kindAt 1) n 0 u) c → w ≡ standsBegin n u m
-        unfolding kindAt kinds
-        begin-whole! x q g w b c i j =
+        unfolding lengthOf kindAt kinds
+        begin-whole! x q g e p w b c i j =
             let lu : length (unitHead begin n 0 u) ≡ 16 = unfold unitHead header bytes2 bytes4 in refl in
-            let k : w ≡ starts (unitHead begin n 0 u) m = i ∙ rw (j, put-front-is (unitHead begin n 0 u) c 16 lu) in
+            let k : w ≡ starts (unitHead begin n 0 u) m = i ∙ rw (p, j, put-front-is (unitHead begin n 0 u) c 16 lu) in
             k ∙ sym (found ∙ rw (← q, not-false x g) (both-end _))

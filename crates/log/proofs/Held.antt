@@ -213,7 +213,7 @@ ready-by l s h none e =
 ready-by l s h (some o) e =
     let a : Anchored l s o = h .anchored o e in
     let w : Awaits (s .unit) o = awaits s o (h .sound) e in
-    let u : (shown s) .unit ≡ s .unit = unfold shown in refl in
+    let u : (shown s) .unit .0 ≡ s .unit = unfold shown in refl in
     record {
       inside = at-is l s h;
       steps = steps-is l s h;
@@ -227,27 +227,27 @@ ready l s h = ready-by l s h (s .opened) refl
 -- ---- a turn reads the next record
 
 opened-none : (l : List ℕ) (s : State) → s .opened ≡ none
-    → turned l (shown s) ≡ pick (standsBegin ((shown s) .number + 1) ((shown s) .unit + 1) (drop (s .at) l)) (begun (shown s)) lost
+    → turned l (shown s) ≡ pick (standsBegin ((shown s) .number .0 + 1) ((shown s) .unit .0 + 1) (drop (s .at) l)) (begun (shown s)) lost
 unfolding turned
 opened-none l s e =
     let a : (shown s) .at ≡ s .at = unfold shown in refl in
     let f : (shown s) .opened ≡ false = shown-opened s ∙ ap there e ∙ unfold-none in
-    pick-false _ _ _ f ∙ ap (λ (x : ℕ). pick (standsBegin ((shown s) .number + 1) ((shown s) .unit + 1) (drop x l)) (begun (shown s)) lost) a
+    pick-false _ _ _ f ∙ ap (λ (x : ℕ). pick (standsBegin ((shown s) .number .0 + 1) ((shown s) .unit .0 + 1) (drop x l)) (begun (shown s)) lost) a
 
 opened-some : (l : List ℕ) (s : State) (o : Open) → s .opened ≡ some o → o .start ≡ readBegin (s .unit) (drop ((shown s) .begin) l)
     → turned l (shown s) ≡ stepped (shown s) (drop (s .at) l) (eqb (o .start .type) 1) (getD (plan (o .start)) (length (o .did)) (close (s .unit)))
 unfolding turned
 opened-some l s o e q =
     let a : (shown s) .at ≡ s .at = unfold shown in refl in
-    let u : (shown s) .unit ≡ s .unit = unfold shown in refl in
+    let u : (shown s) .unit .0 ≡ s .unit = unfold shown in refl in
     let d : (shown s) .done ≡ length (o .did) = done-some s o e in
     let f : (shown s) .opened ≡ true = shown-opened s ∙ ap there e ∙ unfold-some o in
     let b : List ℕ = drop ((shown s) .begin) l in
     let t : o .start .type ≡ getD b 16 0 = ap (λ (g : Begin). g .type) q ∙ type-of (s .unit) b in
     let p : plan (readBegin (s .unit) b) ≡ plan (o .start) = ap plan (sym q) in
     pick-true _ _ _ f
-    ∙ ap (λ (x : ℕ). stepped (shown s) (drop x l) (eqb (getD b 16 0) 1) (getD (plan (readBegin ((shown s) .unit) b)) ((shown s) .done) (close ((shown s) .unit)))) a
-    ∙ ap (λ (x : ℕ). stepped (shown s) (drop (s .at) l) (eqb x 1) (getD (plan (readBegin ((shown s) .unit) b)) ((shown s) .done) (close ((shown s) .unit)))) (sym t)
+    ∙ ap (λ (x : ℕ). stepped (shown s) (drop x l) (eqb (getD b 16 0) 1) (getD (plan (readBegin ((shown s) .unit .0) b)) ((shown s) .done) (close ((shown s) .unit .0)))) a
+    ∙ ap (λ (x : ℕ). stepped (shown s) (drop (s .at) l) (eqb x 1) (getD (plan (readBegin ((shown s) .unit .0) b)) ((shown s) .done) (close ((shown s) .unit .0)))) (sym t)
     ∙ ap (λ (x : ℕ). stepped (shown s) (drop (s .at) l) (eqb (o .start .type) 1) (getD (plan (readBegin x b)) ((shown s) .done) (close x))) u
     ∙ ap (λ (x : ℕ). stepped (shown s) (drop (s .at) l) (eqb (o .start .type) 1) (getD (plan (readBegin (s .unit) b)) x (close (s .unit)))) d
     ∙ ap (λ (x : List Step). stepped (shown s) (drop (s .at) l) (eqb (o .start .type) 1) (getD x (length (o .did)) (close (s .unit)))) p

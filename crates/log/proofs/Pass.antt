@@ -20,7 +20,7 @@ use Rattle.log.specs.Record.{Check, Rec, check, lengthOf, size, encodeCh
 use Rattle.log.specs.Table.{kinds, kindAt}
 use Rattle.log.specs.Write.{lkOf, checkOf}
 use Rattle.log.specs.Log.{Open, State, first, after, afterAll, readRec, readRecs, readCheck, Log, readLog, atEnd, endingAt, lastForced}
-use Rattle.log.specs.Scan.{shown, lost, turned, Ready, topped, answer, scanned, markOf, noted, live, finished}
+use Rattle.log.specs.Scan.{logNo, shown, shut, lost, turned, Ready, topped, answer, scanned, markOf, noted, live, finished}
 use Rattle.log.specs.declared.scan.Walk.{Walk}
 use Rattle.log.specs.declared.scan.Scan.{Scan}
 use Rattle.log.specs.declared.scan.Mark.{Mark}
@@ -82,22 +82,7 @@ module _ (l : List ℕ) where
 
 -- the numbers after the check record
 pub shown-first : (n u : ℕ) (t : Bool) (k at v : ℕ) → at ≡ lengthOf (kindAt 0) 0 → v ≡ pick t k 0
-    → record {
-      ok = true;
-      at = at;
-      number = n;
-      unit = u;
-      known = t;
-      lk = v;
-      opened = false;
-      begin = 0;
-      done = 0;
-      last = 0;
-      rows = 0;
-      first = 0;
-      key = 0;
-      moved = 0;
-    } ≡ shown (first (checkOf n u t k))
+    → shut true at n u t v ≡ shown (first (checkOf n u t k))
 unfolding shown first checkOf kindAt kinds
 shown-first n u t k at v p q = rw (p, q, lk-there t k, lk-key t k) (unfold given there in refl)
 
@@ -111,15 +96,15 @@ live-short l w h =
     sym (both-none (w .ok) _ f)
 
 module _ (l : List ℕ) (w : Walk) (e : Mark) (x : Walk) (q : x ≡ lost) where
-  nothing : record { walk = x; ends = false; forced = 0 } ≡ answer lost none
+  nothing : record { walk = x; ends = false; forced = logNo 0 } ≡ answer lost none
   unfolding answer there given
   nothing = rw q
 
-  pub finish-off : not (w .ok) ≡ true → record { walk = x; ends = false; forced = 0 } ≡ finished l w e
+  pub finish-off : not (w .ok) ≡ true → record { walk = x; ends = false; forced = logNo 0 } ≡ finished l w e
   unfolding finished
   finish-off h = nothing ∙ sym (pick-false _ _ _ (both-false _ _ (not-true (w .ok) h)))
 
-  pub finish-bad : (z : Bool) → z ≡ allZero (take (length l - w .at) (drop (w .at) l)) → not z ≡ true → record { walk = x; ends = false; forced = 0 } ≡ finished l w e
+  pub finish-bad : (z : Bool) → z ≡ allZero (take (length l - w .at) (drop (w .at) l)) → not z ≡ true → record { walk = x; ends = false; forced = logNo 0 } ≡ finished l w e
   unfolding finished
   finish-bad z p h =
       let y : z ≡ allZero (drop (w .at) l) = rw part-to-end at p in
@@ -139,7 +124,7 @@ orElse : Option ℕ → Option ℕ → Option ℕ
 orElse o y = given o y (λ n. some n)
 
 by-mark : (t : Bool) (n : ℕ)
-    → pick t (record { ends = true; number = n }) (record { ends = false; number = 0 }) ≡ markOf (given {A = ℕ} {B = Option ℕ} none (when t n) (λ v. some v))
+    → pick t (record { ends = true; number = logNo n }) (record { ends = false; number = logNo 0 }) ≡ markOf (given {A = ℕ} {B = Option ℕ} none (when t n) (λ v. some v))
 unfolding markOf given there pick when
 by-mark true n = refl
 by-mark false n = refl
@@ -225,7 +210,7 @@ first-rest : (l : List ℕ) (f : ℕ) (c : Check)
 unfolding atEnd lastForced rest orElse given first
 first-rest l f c = refl
 
-no-mark : record { ends = false; number = 0 } ≡ markOf none
+no-mark : record { ends = false; number = logNo 0 } ≡ markOf none
 unfolding markOf there given
 no-mark = refl
 
@@ -250,8 +235,8 @@ start-by l f w e b q m (some c) r =
           ∙ first-rest l f c;
     })
 
-pub pass-start : (l : List ℕ) (f : ℕ) (w : Walk) → Bytes l → w ≡ topped l → Pass l f w (record { ends = false; number = 0 })
-pass-start l f w b q = start-by l f w (record { ends = false; number = 0 }) b q no-mark (readCheck l) refl
+pub pass-start : (l : List ℕ) (f : ℕ) (w : Walk) → Bytes l → w ≡ topped l → Pass l f w (record { ends = false; number = logNo 0 })
+pass-start l f w b q = start-by l f w (record { ends = false; number = logNo 0 }) b q no-mark (readCheck l) refl
 
 -- ---- a turn
 
@@ -318,9 +303,9 @@ at-of : (w : Walk) (s : State) → w ≡ shown s → w .at ≡ s .at
 unfolding shown
 at-of w s e = ap (λ (x : Walk). x .at) e
 
-number-of : (w : Walk) (s : State) → w ≡ shown s → w .number ≡ s .number
+number-of : (w : Walk) (s : State) → w ≡ shown s → w .number .0 ≡ s .number
 unfolding shown
-number-of w s e = ap (λ (x : Walk). x .number) e
+number-of w s e = ap (λ (x : Walk). x .number .0) e
 
 -- a byte that is not zero stands in the log
 byte-in : (l : List ℕ) (a : ℕ) → eqb (getD l a 0) 0 ≡ false → a < length l
@@ -357,10 +342,10 @@ module _ (l : List ℕ) (f : ℕ) (w : Walk) (e : Mark) (b : Bytes l) (p : Pass 
         let k : here .s .at < length l = subst (λ (x : ℕ). x < length l) (at-of w (here .s) (here .shows)) (byte-in l (w .at) (live-byte l w h)) in
         subst (λ (x : ℕ). length l - x < here .fuel - 1) (sym a) (omega (arith, here .enough, size-least r))
 
-    module _ (d : Mark) (n : d ≡ noted e (w .at) (w .number) f) where
+    module _ (d : Mark) (n : d ≡ noted e (w .at) (w .number .0) f) where
       marks-on : d ≡ markOf (orElse (here .o) (when (eqb (here .s .at) f) (here .s .number)))
       marks-on =
-          n ∙ ap (λ (x : ℕ). noted e x (w .number) f) (at-of w (here .s) (here .shows))
+          n ∙ ap (λ (x : ℕ). noted e x (w .number .0) f) (at-of w (here .s) (here .shows))
           ∙ ap (λ (x : ℕ). noted e (here .s .at) x f) (number-of w (here .s) (here .shows))
           ∙ ap (λ (x : Mark). noted x (here .s .at) (here .s .number) f) (here .marks)
           ∙ noted-mark (here .o) (here .s .at) (here .s .number) f
@@ -395,7 +380,7 @@ module _ (l : List ℕ) (f : ℕ) (w : Walk) (e : Mark) (b : Bytes l) (p : Pass 
                 (rest f (after s r) (orElse (here .o) (when (eqb (s .at) f) (s .number)))) (λ rs. rest-more f s (here .o) r rs);
           })
 
-pub pass-turn : (l : List ℕ) (f : ℕ) (w : Walk) (e : Mark) → Bytes l → Pass l f w e → live l w ≡ true → (v : Walk) → v ≡ turned l w → (d : Mark) → d ≡ noted e (w .at) (w .number) f
+pub pass-turn : (l : List ℕ) (f : ℕ) (w : Walk) (e : Mark) → Bytes l → Pass l f w e → live l w ≡ true → (v : Walk) → v ≡ turned l w → (d : Mark) → d ≡ noted e (w .at) (w .number .0) f
     → Pass l f v d
 pass-turn l f w e b p h v q d n = turn-by l f w e b p h v q d n (readRec (here l f w e b p h .s) (drop (here l f w e b p h .s .at) l)) refl
 
@@ -458,13 +443,13 @@ finish-lost l w d k = pick-false _ _ _ (both-false _ _ k)
 
 finish-some : (l : List ℕ) (w : Walk) (o : Option ℕ) → w .ok ≡ true → finished l w (markOf o) ≡ pick (allZero (drop (w .at) l)) (answer w o) (answer lost none)
 unfolding finished markOf answer
-finish-some l w o k = ap (λ (t : Bool). pick t (record { walk = w; ends = there o; forced = given o 0 (λ n. n) }) (answer lost none)) (both-true _ _ k)
+finish-some l w o k = ap (λ (t : Bool). pick t (record { walk = w; ends = there o; forced = logNo (given o 0 (λ n. n)) }) (answer lost none)) (both-true _ _ k)
 
 rest-none : (f : ℕ) (s : State) (o : Option ℕ) → rest f s o [] ≡ answer (shown s) (orElse o (when (eqb (s .at) f) (s .number)))
 unfolding rest afterAll endingAt
 rest-none f s o = refl
 
-end-by : (l : List ℕ) (f : ℕ) (w : Walk) (e : Mark) → Pass l f w e → live l w ≡ false → (d : Mark) → d ≡ noted e (w .at) (w .number) f → (t : Bool) → w .ok ≡ t
+end-by : (l : List ℕ) (f : ℕ) (w : Walk) (e : Mark) → Pass l f w e → live l w ≡ false → (d : Mark) → d ≡ noted e (w .at) (w .number .0) f → (t : Bool) → w .ok ≡ t
     → finished l w d ≡ scanned f l
 end-by l f w e p h d n false k = finish-lost l w d k ∙ sym (p .off k .1)
 end-by l f w e p h d n true k =
@@ -473,7 +458,7 @@ end-by l f w e p h d n true k =
     let o : Option ℕ = orElse (x .o) (when (eqb (s .at) f) (s .number)) in
     let a : w .at ≡ s .at = at-of w s (x .shows) in
     let dm : d ≡ markOf o =
-    n ∙ ap (λ (y : ℕ). noted e y (w .number) f) a
+    n ∙ ap (λ (y : ℕ). noted e y (w .number .0) f) a
     ∙ ap (λ (y : ℕ). noted e (s .at) y f) (number-of w s (x .shows))
     ∙ ap (λ (y : Mark). noted y (s .at) (s .number) f) (x .marks)
     ∙ noted-mark (x .o) (s .at) (s .number) f in
@@ -489,5 +474,5 @@ end-by l f w e p h d n true k =
     ∙ given-when (rest f s (x .o)) (answer lost none) (allZero (drop (s .at) l)) []
     ∙ ap (λ (y : Scan). pick (allZero (drop (s .at) l)) y (answer lost none)) (rest-none f s (x .o)))
 
-pub pass-end : (l : List ℕ) (f : ℕ) (w : Walk) (e : Mark) → Pass l f w e → live l w ≡ false → (d : Mark) → d ≡ noted e (w .at) (w .number) f → finished l w d ≡ scanned f l
+pub pass-end : (l : List ℕ) (f : ℕ) (w : Walk) (e : Mark) → Pass l f w e → live l w ≡ false → (d : Mark) → d ≡ noted e (w .at) (w .number .0) f → finished l w d ≡ scanned f l
 pass-end l f w e p h d n = end-by l f w e p h d n (w .ok) refl

@@ -52,12 +52,12 @@ in-number n org dest back k m e = leb-true n most4 (all-head _ _ e)
 
 -- y: the numbers after the record at the front of m; t: the unit is a compact
 pub record Way (g : ℕ) (w : Walk) (m : List ℕ) (t : Bool) (y : Walk) : Type 0 where
-  pub number : w .number < 4294967295
+  pub number : w .number .0 < 4294967295
   pub room : 16 ≤ length m
   pub takes : g ≡ 79 → Carries m × (y ≡ went w (lengthOf out (le2 m 16)) (le2 m 16) 0 (largest (w .moved) (rowsOf 16 (le2 m 16) (drop 20 m))))
   pub brings : g ≡ 73 → (24 ≤ length m) × (y ≡ went w (lengthOf into 0) 0 0 (w .moved))
   pub points : g ≡ 77 → (28 ≤ length m) × (y ≡ went w (lengthOf modify 0) 0 (le4 m 20) (w .moved))
-  pub begins : g ≡ 66 → (44 ≤ length m) × (w .unit < 4294967295) × (y ≡ begun w)
+  pub begins : g ≡ 66 → (44 ≤ length m) × (w .unit .0 < 4294967295) × (y ≡ begun w)
   pub ends : (g ≡ 79 → ⊥) → (g ≡ 73 → ⊥) → (g ≡ 77 → ⊥) → (g ≡ 66 → ⊥) → (w .opened ≡ true) × (y ≡ ended w t)
 
 -- a sign is not another
@@ -71,14 +71,14 @@ there-by true v e = refl
 there-by false v e = absurd (false≢true e)
 
 module _ (w : Walk) (m : List ℕ) (t : Bool) where
-  way-out : (org dest : ℕ) → standsOut (w .number + 1) org dest m ≡ true
-      → Way (getD m 1 0) w m t (pick (standsOut (w .number + 1) org dest m) (went w (lengthOf out (le2 m 16)) (le2 m 16) 0 (largest (w .moved) (rowsOf 16 (le2 m 16) (drop 20 m)))) lost)
+  way-out : (org dest : ℕ) → standsOut (w .number .0 + 1) org dest m ≡ true
+      → Way (getD m 1 0) w m t (pick (standsOut (w .number .0 + 1) org dest m) (went w (lengthOf out (le2 m 16)) (le2 m 16) 0 (largest (w .moved) (rowsOf 16 (le2 m 16) (drop 20 m)))) lost)
   unfolding standsOut kindOf
   way-out org dest h =
-      let s = stands-sign (w .number + 1) _ m (both-2 _ _ h) in
-      let n = stands-number (w .number + 1) _ m (both-2 _ _ h) in
-      let r = out-room (w .number + 1) m true refl org dest (sym h) in
-      let o = out-rows (w .number + 1) m true refl org dest (sym h) in
+      let s = stands-sign (w .number .0 + 1) _ m (both-2 _ _ h) in
+      let n = stands-number (w .number .0 + 1) _ m (both-2 _ _ h) in
+      let r = out-room (w .number .0 + 1) m true refl org dest (sym h) in
+      let o = out-rows (w .number .0 + 1) m true refl org dest (sym h) in
       record {
         number = omega (arith, n);
         room = omega (arith, r .0);
@@ -89,12 +89,12 @@ module _ (w : Walk) (m : List ℕ) (t : Bool) where
         ends = λ a b c d. absurd (a s);
       }
 
-  way-in : (org dest back k : ℕ) → standsIn (w .number + 1) org dest back k m ≡ true
-      → Way (getD m 1 0) w m t (pick (standsIn (w .number + 1) org dest back k m) (went w (lengthOf into 0) 0 0 (w .moved)) lost)
+  way-in : (org dest back k : ℕ) → standsIn (w .number .0 + 1) org dest back k m ≡ true
+      → Way (getD m 1 0) w m t (pick (standsIn (w .number .0 + 1) org dest back k m) (went w (lengthOf into 0) 0 0 (w .moved)) lost)
   way-in org dest back k h =
-      let s = in-sign (w .number + 1) org dest back k m h in
-      let n = in-number (w .number + 1) org dest back k m h in
-      let r = in-room (w .number + 1) m true refl org dest back k (sym h) in
+      let s = in-sign (w .number .0 + 1) org dest back k m h in
+      let n = in-number (w .number .0 + 1) org dest back k m h in
+      let r = in-room (w .number .0 + 1) m true refl org dest back k (sym h) in
       record {
         number = omega (arith, n);
         room = omega (arith, r);
@@ -105,13 +105,13 @@ module _ (w : Walk) (m : List ℕ) (t : Bool) where
         ends = λ a b c d. absurd (b s);
       }
 
-  way-point : (base old new : ℕ) → standsModify (w .number + 1) base old new m ≡ true
-      → Way (getD m 1 0) w m t (pick (standsModify (w .number + 1) base old new m) (went w (lengthOf modify 0) 0 (le4 m 20) (w .moved)) lost)
+  way-point : (base old new : ℕ) → standsModify (w .number .0 + 1) base old new m ≡ true
+      → Way (getD m 1 0) w m t (pick (standsModify (w .number .0 + 1) base old new m) (went w (lengthOf modify 0) 0 (le4 m 20) (w .moved)) lost)
   unfolding standsModify kindOf
   way-point base old new h =
-      let s = stands-sign (w .number + 1) (LM base old new (le4 m 20)) m h in
-      let n = stands-number (w .number + 1) (LM base old new (le4 m 20)) m h in
-      let r = modify-room (w .number + 1) m true refl base old new (sym h) in
+      let s = stands-sign (w .number .0 + 1) (LM base old new (le4 m 20)) m h in
+      let n = stands-number (w .number .0 + 1) (LM base old new (le4 m 20)) m h in
+      let r = modify-room (w .number .0 + 1) m true refl base old new (sym h) in
       record {
         number = omega (arith, n);
         room = omega (arith, r);
@@ -122,12 +122,12 @@ module _ (w : Walk) (m : List ℕ) (t : Bool) where
         ends = λ a b c d. absurd (c s);
       }
 
-  way-end : (u : ℕ) → stands (w .number + 1) (LE u) m ≡ true → w .opened ≡ true → Way (getD m 1 0) w m t (pick (stands (w .number + 1) (LE u) m) (ended w t) lost)
+  way-end : (u : ℕ) → stands (w .number .0 + 1) (LE u) m ≡ true → w .opened ≡ true → Way (getD m 1 0) w m t (pick (stands (w .number .0 + 1) (LE u) m) (ended w t) lost)
   unfolding kindOf
   way-end u h op =
-      let s = stands-sign (w .number + 1) (LE u) m h in
-      let n = stands-number (w .number + 1) (LE u) m h in
-      let r = end-room (w .number + 1) m true refl u (sym h) in
+      let s = stands-sign (w .number .0 + 1) (LE u) m h in
+      let n = stands-number (w .number .0 + 1) (LE u) m h in
+      let r = end-room (w .number .0 + 1) m true refl u (sym h) in
       record {
         number = omega (arith, n);
         room = r;
@@ -138,13 +138,13 @@ module _ (w : Walk) (m : List ℕ) (t : Bool) where
         ends = λ a b c d. (op, pick-true _ _ _ h);
       }
 
-  way-begin : standsBegin (w .number + 1) (w .unit + 1) m ≡ true → Way (getD m 1 0) w m t (pick (standsBegin (w .number + 1) (w .unit + 1) m) (begun w) lost)
+  way-begin : standsBegin (w .number .0 + 1) (w .unit .0 + 1) m ≡ true → Way (getD m 1 0) w m t (pick (standsBegin (w .number .0 + 1) (w .unit .0 + 1) m) (begun w) lost)
   unfolding standsBegin beginOk readBegin kindOf
   way-begin h =
-      let s = stands-sign (w .number + 1) _ m (both-2 _ _ h) in
-      let n = stands-number (w .number + 1) _ m (both-2 _ _ h) in
-      let u = leb-true (w .unit + 1) most4 (all-head _ _ (both-1 _ _ h)) in
-      let r = begin-room (w .number + 1) m true refl (w .unit + 1) (sym h) in
+      let s = stands-sign (w .number .0 + 1) _ m (both-2 _ _ h) in
+      let n = stands-number (w .number .0 + 1) _ m (both-2 _ _ h) in
+      let u = leb-true (w .unit .0 + 1) most4 (all-head _ _ (both-1 _ _ h)) in
+      let r = begin-room (w .number .0 + 1) m true refl (w .unit .0 + 1) (sym h) in
       record {
         number = omega (arith, n);
         room = omega (arith, r);

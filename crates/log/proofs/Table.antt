@@ -5,11 +5,12 @@ use native.Mathlib.Omega.{arith}
 use mathlib.Core.Path.{_≡_, refl}
 use mathlib.Core.List.{List, [], _∷_}
 use lib.ListN.{length, getD}
-use Rattle.log.specs.Record.{Kind, check, begin, out, into, modify, end, lengthOf}
+use Rattle.log.specs.Record.{letter, Kind, check, begin, out, into, modify, end, lengthOf}
 use Rattle.log.specs.Table.{kinds, kindAt, tabled}
 
 -- a kind's four places in a table of kinds
 pub record Placed (ks : List Kind) (k : ℕ) : Type 0 where
+  pub lead : getD (tabled ks) (4 * k) 0 ≡ letter
   pub sign : getD (tabled ks) (4 * k + 1) 0 ≡ getD ks k check .sign
   pub fixed : getD (tabled ks) (4 * k + 2) 0 ≡ getD ks k check .fixed
   pub each : getD (tabled ks) (4 * k + 3) 0 ≡ getD ks k check .each
@@ -17,13 +18,14 @@ pub record Placed (ks : List Kind) (k : ℕ) : Type 0 where
 placed : (ks : List Kind) (k : ℕ) → k < length ks → Placed ks k
 unfolding tabled
 placed [] k h = absurd (not-suc-le-zero h)
-placed (c ∷ cs) zero h = record { sign = refl; fixed = refl; each = refl }
+placed (c ∷ cs) zero h = record { lead = refl; sign = refl; fixed = refl; each = refl }
 placed (c ∷ cs) (suc k) h =
     let p = placed cs k (omega arith) in
+    let e0 : 4 * suc k ≡ suc (suc (suc (suc (4 * k)))) = omega arith in
     let e1 : 4 * suc k + 1 ≡ suc (suc (suc (suc (4 * k + 1)))) = omega arith in
     let e2 : 4 * suc k + 2 ≡ suc (suc (suc (suc (4 * k + 2)))) = omega arith in
     let e3 : 4 * suc k + 3 ≡ suc (suc (suc (suc (4 * k + 3)))) = omega arith in
-    record { sign = rw e1 (p .sign); fixed = rw e2 (p .fixed); each = rw e3 (p .each) }
+    record { lead = rw e0 (p .lead); sign = rw e1 (p .sign); fixed = rw e2 (p .fixed); each = rw e3 (p .each) }
 
 -- the kind k of the table
 pub table-row : (k : ℕ) → k < 6 → Placed kinds k

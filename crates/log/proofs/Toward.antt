@@ -273,11 +273,11 @@ pub record Next (l : List ℕ) (s : State) (o : Open) : Type 0 where
   pub others : List Step
   pub todo : o .todo ≡ step ∷ others
   pub room : (shown s) .begin + 44 ≤ length l
-  pub start : readBegin ((shown s) .unit) (drop ((shown s) .begin) l) ≡ o .start
-  pub ok : beginOk (readBegin ((shown s) .unit) (drop ((shown s) .begin) l)) ≡ true
-  pub rest : drop ((shown s) .done) (plan (readBegin ((shown s) .unit) (drop ((shown s) .begin) l))) ≡ o .todo
-  pub less : (shown s) .done < length (plan (readBegin ((shown s) .unit) (drop ((shown s) .begin) l)))
-  pub at : getD (plan (readBegin ((shown s) .unit) (drop ((shown s) .begin) l))) ((shown s) .done) (close ((shown s) .unit)) ≡ step
+  pub start : readBegin ((shown s) .unit .0) (drop ((shown s) .begin) l) ≡ o .start
+  pub ok : beginOk (readBegin ((shown s) .unit .0) (drop ((shown s) .begin) l)) ≡ true
+  pub rest : drop ((shown s) .done) (plan (readBegin ((shown s) .unit .0) (drop ((shown s) .begin) l))) ≡ o .todo
+  pub less : (shown s) .done < length (plan (readBegin ((shown s) .unit .0) (drop ((shown s) .begin) l)))
+  pub at : getD (plan (readBegin ((shown s) .unit .0) (drop ((shown s) .begin) l))) ((shown s) .done) (close ((shown s) .unit .0)) ≡ step
   pub back : Back (length (o .did)) step
 
 drop-less : (n : ℕ) (p : List Step) (x : Step) (xs : List Step) → drop n p ≡ x ∷ xs → n < length p
@@ -286,7 +286,7 @@ drop-less n p x xs e =
     let j : length (drop n p) ≡ suc (length xs) = ap (λ (y : List Step). length y) e in
     omega arith
 
-unit-is : (s : State) → (shown s) .unit ≡ s .unit
+unit-is : (s : State) → (shown s) .unit .0 ≡ s .unit
 unfolding shown
 unit-is s = refl
 
@@ -295,12 +295,12 @@ next-of l s o h e =
     let a : Anchored l s o = h .anchored o e in
     let w : Awaits (s .unit) o = awaits s o (h .sound) e in
     let c : Cons (o .todo) = ending-cons (w .todo) in
-    let b : readBegin ((shown s) .unit) (drop ((shown s) .begin) l) ≡ o .start =
+    let b : readBegin ((shown s) .unit .0) (drop ((shown s) .begin) l) ≡ o .start =
     ap (λ (u : ℕ). readBegin u (drop ((shown s) .begin) l)) (unit-is s) ∙ sym (a .start) in
-    let p : List Step = plan (readBegin ((shown s) .unit) (drop ((shown s) .begin) l)) in
+    let p : List Step = plan (readBegin ((shown s) .unit .0) (drop ((shown s) .begin) l)) in
     let t : drop ((shown s) .done) p ≡ o .todo =
     ap (λ (n : ℕ). drop n p) (done-some s o e) ∙ ap (λ (g : Begin). drop (length (o .did)) (plan g)) b ∙ sym (awaits-todo w) in
-    let x : getD p ((shown s) .done) (close ((shown s) .unit)) ≡ c .head = head-drop ((shown s) .done) p (close ((shown s) .unit)) (c .head) (c .tail) (t ∙ c .is) in
+    let x : getD p ((shown s) .done) (close ((shown s) .unit .0)) ≡ c .head = head-drop ((shown s) .done) p (close ((shown s) .unit .0)) (c .head) (c .tail) (t ∙ c .is) in
     let y : getD (plan (o .start)) (length (o .did)) (close (s .unit)) ≡ c .head =
     head-drop (length (o .did)) (plan (o .start)) (close (s .unit)) (c .head) (c .tail) (sym (awaits-todo w) ∙ c .is) in
     record {
@@ -323,7 +323,7 @@ module _ {l : List ℕ} {s : State} {rs : List Rec} {o : Open} (t : Toward l s r
 
   -- its numbers show it
   pub toward-step : {x : Step} {xs : List Step} → o .todo ≡ x ∷ xs
-      → getD (plan (readBegin ((shown s) .unit) (drop ((shown s) .begin) l))) ((shown s) .done) (close ((shown s) .unit)) ≡ x
+      → getD (plan (readBegin ((shown s) .unit .0) (drop ((shown s) .begin) l))) ((shown s) .done) (close ((shown s) .unit .0)) ≡ x
   toward-step e = toward-next .at ∙ cons-head _ _ _ _ (sym (toward-next .todo) ∙ e)
 
   -- the LO of an LI that comes next

@@ -185,7 +185,7 @@ module _ (s : State) (o : Open) (op : s .opened ≡ some o) (m : List ℕ) where
   unfolding size carried kindOf keyIn unitBy lkBy openedBy bind largest
   modify-shown base old new key = shown-went s o (LM base old new key) op refl refl refl ∙ ap (went (shown s) (lengthOf modify 0) 0 key) (sym moved-is)
 
-  number-is : (shown s) .number ≡ s .number
+  number-is : (shown s) .number .0 ≡ s .number
   unfolding shown
   number-is = refl
 
@@ -236,13 +236,13 @@ module _ (s : State) (o : Open) (op : s .opened ≡ some o) (m : List ℕ) where
 
 -- the record that comes next where no unit is open
 pub shut-reads : (s : State) (m : List ℕ) → s .opened ≡ none
-    → pick (standsBegin ((shown s) .number + 1) ((shown s) .unit + 1) m) (begun (shown s)) lost ≡ given (readRec s m) lost (λ r. shown (after s r))
+    → pick (standsBegin ((shown s) .number .0 + 1) ((shown s) .unit .0 + 1) m) (begun (shown s)) lost ≡ given (readRec s m) lost (λ r. shown (after s r))
 unfolding standsBegin expected
 shut-reads s m op =
     let g : Begin = readBegin (s .unit + 1) m in
     let gu : g .unit ≡ s .unit + 1 = unfold readBegin in refl in
-    let n : (shown s) .number ≡ s .number = unfold shown in refl in
-    let u : (shown s) .unit ≡ s .unit = unfold shown in refl in
+    let n : (shown s) .number .0 ≡ s .number = unfold shown in refl in
+    let u : (shown s) .unit .0 ≡ s .unit = unfold shown in refl in
     let e : expected (s .unit) (s .opened) m ≡ when (beginOk g) (LB g) = rw op in
     let r : given (readRec s m) lost (λ r. shown (after s r)) ≡ pick (both (beginOk g) (stands (s .number + 1) (LB g) m)) (shown (after s (LB g))) lost =
     ap (λ (y : Option Rec). given y lost (λ r. shown (after s r))) (read-is s m (when (beginOk g) (LB g)) e)

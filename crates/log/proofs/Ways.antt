@@ -18,6 +18,8 @@ use Rattle.log.specs.Record.{Begin, Rec, LB, LO, LM, LE, into, lengthOf,
 use Rattle.log.specs.Plan.{Step, takeOut, bringIn, point, close, plan}
 use Rattle.log.specs.Log.{beginOk, readBegin}
 use Rattle.log.specs.Stand.{stands, standsIn, standsModify, standsOut, standsBegin}
+use Rattle.field.specs.declared.PageNo.{PageNo}
+use Rattle.field.specs.declared.UnitNo.{UnitNo}
 use Rattle.log.specs.Scan.{lost, begun, stepped, turned}
 use Rattle.log.specs.declared.scan.Walk.{Walk}
 use Rattle.log.specs.declared.steps.Planned.{Planned}
@@ -81,62 +83,62 @@ stands-full : (n : ℕ) (r : Rec) (m : List ℕ) → most4 < n → stands n r m 
 unfolding stands all
 stands-full n r m h = both-false _ _ (lt-leb n most4 h)
 
-pub begin-last : (w : Walk) (m : List ℕ) (x : Walk) → x ≡ lost → w .unit ≡ 4294967295 → x ≡ pick (standsBegin (w .number + 1) (w .unit + 1) m) (begun w) lost
+pub begin-last : (w : Walk) (m : List ℕ) (x : Walk) → x ≡ lost → w .unit .0 ≡ 4294967295 → x ≡ pick (standsBegin (w .number .0 + 1) (w .unit .0 + 1) m) (begun w) lost
 unfolding standsBegin beginOk all readBegin
 begin-last w m x e h =
-    let k : leb (w .unit + 1) most4 ≡ false = lt-leb (w .unit + 1) most4 (omega arith) in
+    let k : leb (w .unit .0 + 1) most4 ≡ false = lt-leb (w .unit .0 + 1) most4 (omega arith) in
     e ∙ sym (pick-false _ _ _ (both-false _ _ (both-false _ _ k)))
 
-step-full : (w : Walk) (m : List ℕ) (t : Bool) (s : Step) → most4 < w .number + 1 → stepped w m t s ≡ lost
+step-full : (w : Walk) (m : List ℕ) (t : Bool) (s : Step) → most4 < w .number .0 + 1 → stepped w m t s ≡ lost
 unfolding stepped standsOut standsIn standsModify all
-step-full w m t (takeOut org dest) h = pick-false _ _ _ (both-none _ _ (stands-full (w .number + 1) _ m h))
-step-full w m t (bringIn org dest back) h = pick-false _ _ _ (both-false _ _ (lt-leb (w .number + 1) most4 h))
-step-full w m t (point base old new other) h = pick-false _ _ _ (stands-full (w .number + 1) _ m h)
-step-full w m t (close u) h = pick-false _ _ _ (stands-full (w .number + 1) _ m h)
+step-full w m t (takeOut org dest) h = pick-false _ _ _ (both-none _ _ (stands-full (w .number .0 + 1) _ m h))
+step-full w m t (bringIn org dest back) h = pick-false _ _ _ (both-false _ _ (lt-leb (w .number .0 + 1) most4 h))
+step-full w m t (point base old new other) h = pick-false _ _ _ (stands-full (w .number .0 + 1) _ m h)
+step-full w m t (close u) h = pick-false _ _ _ (stands-full (w .number .0 + 1) _ m h)
 
 either : (t : Bool) (a b : Walk) → a ≡ lost → b ≡ lost → pick t a b ≡ lost
 unfolding pick
 either true a b p q = p
 either false a b p q = q
 
-pub turned-full : (l : List ℕ) (w x : Walk) → x ≡ lost → w .number ≡ 4294967295 → x ≡ turned l w
+pub turned-full : (l : List ℕ) (w x : Walk) → x ≡ lost → w .number .0 ≡ 4294967295 → x ≡ turned l w
 unfolding turned standsBegin
 turned-full l w x e h =
-    let k : most4 < w .number + 1 = omega arith in
-    e ∙ sym (either (w .opened) _ _ (step-full w _ _ _ k) (pick-false _ _ _ (both-none _ _ (stands-full (w .number + 1) _ _ k))))
+    let k : most4 < w .number .0 + 1 = omega arith in
+    e ∙ sym (either (w .opened) _ _ (step-full w _ _ _ k) (pick-false _ _ _ (both-none _ _ (stands-full (w .number .0 + 1) _ _ k))))
 
 -- ---- the turn, by what the code lends
 
 module _ (l : List ℕ) (w x : Walk) where
-  pub begin-turned : not (w .opened) ≡ true → x ≡ pick (standsBegin (w .number + 1) (w .unit + 1) (take (length l - w .at) (drop (w .at) l))) (begun w) lost → x ≡ turned l w
+  pub begin-turned : not (w .opened) ≡ true → x ≡ pick (standsBegin (w .number .0 + 1) (w .unit .0 + 1) (take (length l - w .at) (drop (w .at) l))) (begun w) lost → x ≡ turned l w
   unfolding turned
   begin-turned h e =
-      let y : x ≡ pick (standsBegin (w .number + 1) (w .unit + 1) (drop (w .at) l)) (begun w) lost = rw part-to-end at e in
+      let y : x ≡ pick (standsBegin (w .number .0 + 1) (w .unit .0 + 1) (drop (w .at) l)) (begun w) lost = rw part-to-end at e in
       y ∙ sym (pick-false _ _ _ (not-true (w .opened) h))
 
-  pub step-turned : not (w .opened) ≡ false → (s : Step) → s ≡ getD (plan (readBegin (w .unit) (take (length l - w .begin) (drop (w .begin) l)))) (w .done) (close (w .unit))
+  pub step-turned : not (w .opened) ≡ false → (s : Step) → s ≡ getD (plan (readBegin (w .unit .0) (take (length l - w .begin) (drop (w .begin) l)))) (w .done) (close (w .unit .0))
       → x ≡ stepped w (take (length l - w .at) (drop (w .at) l)) (eqb (getD l (w .begin + 16) 0) 1) s → x ≡ turned l w
   unfolding turned
   step-turned h s es e =
-      let ys : s ≡ getD (plan (readBegin (w .unit) (drop (w .begin) l))) (w .done) (close (w .unit)) = rw part-to-end at es in
+      let ys : s ≡ getD (plan (readBegin (w .unit .0) (drop (w .begin) l))) (w .done) (close (w .unit .0)) = rw part-to-end at es in
       let y : x ≡ stepped w (drop (w .at) l) (eqb (getD l (w .begin + 16) 0) 1) s = rw part-to-end at e in
       y ∙ sym (pick-true _ _ _ (not-false (w .opened) h) ∙ rw (getD-drop (w .begin) l 16 0, ← ys))
 
 -- ---- the step that the code has
 
 module _ (w : Walk) (m : List ℕ) (t : Bool) (p : Planned) (x : Walk) where
-  pub step-out! : (org dest : ℕ) → p ≡ Out org dest → x ≡ stepped w m false (takeOut org dest) → x ≡ stepped w m t (stepOf p)
+  pub step-out! : (org dest : PageNo) → p ≡ Out org dest → x ≡ stepped w m false (takeOut (org .0) (dest .0)) → x ≡ stepped w m t (stepOf p)
   unfolding stepOf stepped
   step-out! org dest q e = e ∙ rw q
 
-  pub step-in! : (org dest back : ℕ) → p ≡ In org dest back → x ≡ stepped w m false (bringIn org dest back) → x ≡ stepped w m t (stepOf p)
+  pub step-in! : (org dest : PageNo) (back : ℕ) → p ≡ In org dest back → x ≡ stepped w m false (bringIn (org .0) (dest .0) back) → x ≡ stepped w m t (stepOf p)
   unfolding stepOf stepped
   step-in! org dest back q e = e ∙ rw q
 
-  pub step-point! : (base old new : ℕ) (other : Bool) → p ≡ Point base old new other → x ≡ stepped w m false (point base old new false) → x ≡ stepped w m t (stepOf p)
+  pub step-point! : (base old new : PageNo) (other : Bool) → p ≡ Point base old new other → x ≡ stepped w m false (point (base .0) (old .0) (new .0) false) → x ≡ stepped w m t (stepOf p)
   unfolding stepOf stepped
   step-point! base old new other q e = e ∙ rw q
 
-  pub step-close! : (u : ℕ) → p ≡ Close u → x ≡ stepped w m t (close u) → x ≡ stepped w m t (stepOf p)
+  pub step-close! : (u : UnitNo) → p ≡ Close u → x ≡ stepped w m t (close (u .0)) → x ≡ stepped w m t (stepOf p)
   unfolding stepOf stepped
   step-close! u q e = e ∙ rw q

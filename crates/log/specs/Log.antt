@@ -11,7 +11,7 @@ use lib.Dec.{eqb, leb}
 use Rattle.field.specs.Test.{both, all, pick, given, when, bind}
 use Rattle.field.specs.Bytes.{allZero, starts, le2, le4, most4}
 use Rattle.page.specs.Page.{rowsOf, keyOf, ascendRecords}
-use Rattle.log.specs.Record.{check, lengthOf, Check, Begin, Rec, LB, LO, LI, LM, LE, carried, size, encodeCheck, encode, encodeAll}
+use Rattle.log.specs.Record.{check, lengthOf, typeAt, fillAt, baseCountAt, leafCountAt, basesAt, leavesAt, destAt, Check, Begin, Rec, LB, LO, LI, LM, LE, carried, size, encodeCheck, encode, encodeAll}
 use Rattle.log.specs.Plan.{Step, takeOut, bringIn, point, close, plan}
 
 -- ---- what is known after a record
@@ -139,11 +139,11 @@ unfoldable pub readBegin : (unit : ℕ) → List ℕ → Begin
 readBegin u l =
     record {
       unit = u;
-      type = getD l 16 0;
-      fill = getD l 17 0;
-      bases = readFields (getD l 18 0) (drop 20 l);
-      leaves = readFields (getD l 19 0) (drop 24 l);
-      dest = le2 l 40;
+      type = getD l typeAt 0;
+      fill = getD l fillAt 0;
+      bases = readFields (getD l baseCountAt 0) (drop basesAt l);
+      leaves = readFields (getD l leafCountAt 0) (drop leavesAt l);
+      dest = le2 l destAt;
     }
 
 -- the records of the LO that stands `back` records before; did has the latest first

@@ -9,7 +9,10 @@ use Rattle.field.specs.Test.{pick}
 use Rattle.field.specs.Bytes.{zeroes, bytes2, bytes4}
 use Rattle.page.specs.Page.{joined}
 
--- ---- the table of record kinds: the mark's second letter (the first is `L`), the fixed length, the bytes of each record carried
+-- ---- the table of record kinds: the mark's second letter (the first is always `L`), the fixed length, the bytes of each record carried
+
+abbrev pub letter : ℕ
+letter = 76
 
 pub record Kind : Type 0 where
   pub sign : ℕ
@@ -84,11 +87,44 @@ carried (LE unit) = []
 unfoldable pub size : Rec → ℕ
 size r = lengthOf (kindOf r) (length (carried r))
 
+-- ---- where the fields of a begin record stand: behind header and unit number, one behind the other
+
+-- so many base pages and leaf pages have a place in it
+abbrev pub basePlaces : ℕ
+basePlaces = 2
+
+abbrev pub leafPlaces : ℕ
+leafPlaces = 8
+
+abbrev pub typeAt : ℕ
+typeAt = 16
+
+abbrev pub fillAt : ℕ
+fillAt = typeAt + 1
+
+abbrev pub baseCountAt : ℕ
+baseCountAt = fillAt + 1
+
+abbrev pub leafCountAt : ℕ
+leafCountAt = baseCountAt + 1
+
+abbrev pub basesAt : ℕ
+basesAt = leafCountAt + 1
+
+abbrev pub leavesAt : ℕ
+leavesAt = basesAt + 2 * basePlaces
+
+abbrev pub destAt : ℕ
+destAt = leavesAt + 2 * leafPlaces
+
+abbrev pub zeroAt : ℕ
+zeroAt = destAt + 2
+
 -- ---- the bytes
 
 -- mark (2), whole length (2), log number (4), previous log number (4)
 unfoldable pub header : Kind → (long n before : ℕ) → List ℕ
-header c long n before = 76 ∷ c .sign ∷ (bytes2 long ++ (bytes4 n ++ bytes4 before))
+header c long n before = letter ∷ c .sign ∷ (bytes2 long ++ (bytes4 n ++ bytes4 before))
 
 -- n fields of two bytes: the pages listed, then zeros
 unfoldable pub fields : (n : ℕ) → List ℕ → List ℕ
@@ -111,7 +147,7 @@ newKey new key = pick (eqb new 0) 0 key
 -- the body of a record with the log number n
 unfoldable pub body : (n : ℕ) → Rec → List ℕ
 body n (LB g) =
-    bytes4 (g .unit) ++ (g .type ∷ g .fill ∷ length (g .bases) ∷ length (g .leaves) ∷ (fields 2 (g .bases) ++ (fields 8 (g .leaves) ++ (bytes2 (g .dest) ++ bytes2 0))))
+    bytes4 (g .unit) ++ (g .type ∷ g .fill ∷ length (g .bases) ∷ length (g .leaves) ∷ (fields basePlaces (g .bases) ++ (fields leafPlaces (g .leaves) ++ (bytes2 (g .dest) ++ bytes2 0))))
 body n (LO org dest rs) = bytes2 org ++ (bytes2 dest ++ (bytes2 (length rs) ++ (bytes2 0 ++ joined rs)))
 body n (LI org dest back rs) = bytes2 org ++ (bytes2 dest ++ (bytes2 (length rs) ++ (bytes2 0 ++ bytes4 (n - back))))
 body n (LM base old new key) = bytes2 base ++ (bytes2 old ++ (bytes2 new ++ (bytes2 0 ++ (bytes4 key ++ bytes4 (newKey new key)))))

@@ -10,13 +10,23 @@ use lib.Dec.{eqb}
 use Rattle.field.specs.Test.{both, pick, given, there}
 use Rattle.field.specs.Bytes.{allZero, le2, le4}
 use Rattle.page.specs.Page.{rowsOf}
-use Rattle.log.specs.Record.{Rec, LB, LO, LI, LM, LE, check, begin, out, into, modify, end, lengthOf, carried, size}
+use Rattle.log.specs.Record.{typeAt, Rec, LB, LO, LI, LM, LE, check, begin, out, into, modify, end, lengthOf, carried, size}
 use Rattle.log.specs.Plan.{Step, takeOut, bringIn, point, close, plan}
 use Rattle.log.specs.Log.{Open, State, largest, largestMoved, beginOk, readBegin, readLog, atEnd, lastForced, first, readCheck}
 use Rattle.log.specs.Stand.{stands, standsIn, standsModify, standsOut, standsBegin}
+use Rattle.field.specs.declared.LogNo.{LogNo}
+use Rattle.field.specs.declared.UnitNo.{UnitNo}
 use Rattle.log.specs.declared.scan.Walk.{Walk}
 use Rattle.log.specs.declared.scan.Scan.{Scan}
 use Rattle.log.specs.declared.scan.Mark.{Mark}
+
+-- ---- the code's three counters by number
+
+abbrev pub logNo : ℕ → LogNo
+logNo n = record { 0 = n }
+
+abbrev pub unitNo : ℕ → UnitNo
+unitNo n = record { 0 = n }
 
 -- ---- a state by numbers
 
@@ -45,8 +55,8 @@ shown s =
     record {
       ok = true;
       at = s .at;
-      number = s .number;
-      unit = s .unit;
+      number = logNo (s .number);
+      unit = unitNo (s .unit);
       known = there (s .lk);
       lk = given (s .lk) 0 (λ k. k);
       opened = there (s .opened);
@@ -59,16 +69,16 @@ shown s =
       moved = given (s .opened) 0 (λ o. largestMoved 0 (o .did));
     }
 
--- the answer where the log's form is broken
-unfoldable pub lost : Walk
-lost =
+-- no unit open: the log's end, its last number, the last unit, LK
+abbrev pub shut : (ok : Bool) → (at n unit : ℕ) → (known : Bool) → (lk : ℕ) → Walk
+shut ok at n unit known lk =
     record {
-      ok = false;
-      at = 0;
-      number = 0;
-      unit = 0;
-      known = false;
-      lk = 0;
+      ok = ok;
+      at = at;
+      number = logNo n;
+      unit = unitNo unit;
+      known = known;
+      lk = lk;
       opened = false;
       begin = 0;
       done = 0;
@@ -78,93 +88,70 @@ lost =
       key = 0;
       moved = 0;
     }
+
+-- one record of so many bytes more, after which this unit is open
+abbrev opens : Walk → (long unit begin done rows first key moved : ℕ) → Walk
+opens w long unit begin done rows first key moved =
+    record {
+      ok = true;
+      at = w .at + long;
+      number = logNo (w .number .0 + 1);
+      unit = unitNo unit;
+      known = w .known;
+      lk = w .lk;
+      opened = true;
+      begin = begin;
+      done = done;
+      last = w .at;
+      rows = rows;
+      first = first;
+      key = key;
+      moved = moved;
+    }
+
+-- the answer where the log's form is broken
+unfoldable pub lost : Walk
+lost = shut false 0 0 0 false 0
 
 -- ---- one record more, by numbers
 
 -- an LB
 unfoldable pub begun : Walk → Walk
-begun w =
-    record {
-      ok = true;
-      at = w .at + lengthOf begin 0;
-      number = w .number + 1;
-      unit = w .unit + 1;
-      known = w .known;
-      lk = w .lk;
-      opened = true;
-      begin = w .at;
-      done = 0;
-      last = w .at;
-      rows = 0;
-      first = 0;
-      key = 0;
-      moved = 0;
-    }
+begun w = opens w (lengthOf begin 0) (w .unit .0 + 1) (w .at) 0 0 0 0 0
 
 -- an LO, LI or LM of so many bytes, records carried, with this key and this largest key moved
 unfoldable pub went : Walk → (long rows key moved : ℕ) → Walk
-went w long rows key moved =
-    record {
-      ok = true;
-      at = w .at + long;
-      number = w .number + 1;
-      unit = w .unit;
-      known = w .known;
-      lk = w .lk;
-      opened = true;
-      begin = w .begin;
-      done = w .done + 1;
-      last = w .at;
-      rows = rows;
-      first = pick (eqb (w .done) 0) rows (w .first);
-      key = key;
-      moved = moved;
-    }
+went w long rows key moved = opens w long (w .unit .0) (w .begin) (w .done + 1) rows (pick (eqb (w .done) 0) rows (w .first)) key moved
 
 -- an LE; of a compact, LK becomes the largest key moved
 unfoldable pub ended : Walk → (compact : Bool) → Walk
 ended w compact =
-    record {
-      ok = true;
-      at = w .at + lengthOf end 0;
-      number = w .number + 1;
-      unit = w .unit;
-      known = pick compact true (w .known);
-      lk = pick compact (w .moved) (w .lk);
-      opened = false;
-      begin = 0;
-      done = 0;
-      last = 0;
-      rows = 0;
-      first = 0;
-      key = 0;
-      moved = 0;
-    }
+    shut true (w .at + lengthOf end 0) (w .number .0 + 1) (w .unit .0) (pick compact true (w .known)) (pick compact (w .moved) (w .lk))
 
 -- the record of a planned step, read off the log's bytes m from there on; t: the unit is a compact
 unfoldable pub stepped : Walk → (m : List ℕ) → (t : Bool) → Step → Walk
 stepped w m t (takeOut org dest) =
     let k : ℕ = le2 m 16 in
-    pick (standsOut (w .number + 1) org dest m) (went w (lengthOf out k) k 0 (largest (w .moved) (rowsOf 16 k (drop 20 m)))) lost
+    pick (standsOut (w .number .0 + 1) org dest m) (went w (lengthOf out k) k 0 (largest (w .moved) (rowsOf 16 k (drop 20 m)))) lost
 stepped w m t (bringIn org dest back) =
-    pick (standsIn (w .number + 1) org dest back (pick (eqb back 1) (w .rows) (w .first)) m) (went w (lengthOf into 0) 0 0 (w .moved)) lost
-stepped w m t (point base old new other) = pick (standsModify (w .number + 1) base old new m) (went w (lengthOf modify 0) 0 (le4 m 20) (w .moved)) lost
-stepped w m t (close unit) = pick (stands (w .number + 1) (LE unit) m) (ended w t) lost
+    pick (standsIn (w .number .0 + 1) org dest back (pick (eqb back 1) (w .rows) (w .first)) m) (went w (lengthOf into 0) 0 0 (w .moved)) lost
+stepped w m t (point base old new other) = pick (standsModify (w .number .0 + 1) base old new m) (went w (lengthOf modify 0) 0 (le4 m 20) (w .moved)) lost
+stepped w m t (close unit) = pick (stands (w .number .0 + 1) (LE unit) m) (ended w t) lost
 
 -- the next record of the log l
 unfoldable pub turned : (l : List ℕ) → Walk → Walk
 turned l w =
     let m : List ℕ = drop (w .at) l in
     let b : List ℕ = drop (w .begin) l in
-    pick (w .opened) (stepped w m (eqb (getD b 16 0) 1) (getD (plan (readBegin (w .unit) b)) (w .done) (close (w .unit))))
-    (pick (standsBegin (w .number + 1) (w .unit + 1) m) (begun w) lost)
+    pick (w .opened) (stepped w m (eqb (getD b typeAt 0) 1) (getD (plan (readBegin (w .unit .0) b)) (w .done) (close (w .unit .0))))
+    (pick (standsBegin (w .number .0 + 1) (w .unit .0 + 1) m) (begun w) lost)
 
 -- what a turn needs of the numbers
 pub record Ready (l : List ℕ) (w : Walk) : Type 0 where
   pub inside : w .at ≤ length l
   pub steps : w .done ≤ w .at
   pub room : w .opened ≡ true → w .begin + 44 ≤ length l
-  pub start : w .opened ≡ true → beginOk (readBegin (w .unit) (drop (w .begin) l)) ≡ true
+  pub start : w .opened ≡ true → beginOk (readBegin (w .unit .0) (drop (w .begin) l)) ≡ true
 
 -- the check record
 unfoldable pub topped : (l : List ℕ) → Walk
@@ -173,7 +160,7 @@ topped l = given (readCheck l) lost (λ c. shown (first c))
 -- ---- the answer for the whole log
 
 unfoldable pub answer : Walk → Option ℕ → Scan
-answer w f = record { walk = w; ends = there f; forced = given f 0 (λ n. n) }
+answer w f = record { walk = w; ends = there f; forced = logNo (given f 0 (λ n. n)) }
 
 -- all that a call needs to know of a log, of which `forced` bytes are forced
 unfoldable pub scanned : (forced : ℕ) → (l : List ℕ) → Scan
@@ -183,11 +170,11 @@ scanned f l = given (readLog l) (answer lost none) (λ g. answer (shown (atEnd g
 
 -- what was found of the record that ends at the bytes forced
 unfoldable pub markOf : Option ℕ → Mark
-markOf f = record { ends = there f; number = given f 0 (λ n. n) }
+markOf f = record { ends = there f; number = logNo (given f 0 (λ n. n)) }
 
 -- a record with this number ends at the offset at
 unfoldable pub noted : Mark → (at n f : ℕ) → Mark
-noted e at n f = pick (e .ends) e (pick (eqb at f) (record { ends = true; number = n }) (record { ends = false; number = 0 }))
+noted e at n f = pick (e .ends) e (pick (eqb at f) (record { ends = true; number = logNo n }) (record { ends = false; number = logNo 0 }))
 
 -- another record comes
 unfoldable pub live : (l : List ℕ) → Walk → Bool

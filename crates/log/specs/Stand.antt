@@ -8,7 +8,7 @@ use lib.Dec.{leb}
 use Rattle.field.specs.Test.{both, all, given}
 use Rattle.field.specs.Bytes.{part, allZero, starts, le2, le4, most4}
 use Rattle.page.specs.Page.{rowsOf, ascendRecords}
-use Rattle.log.specs.Record.{Begin, Rec, LB, LO, LM, into, lengthOf, size, encode}
+use Rattle.log.specs.Record.{Begin, Rec, LB, LO, LM, into, baseCountAt, leafCountAt, basesAt, leavesAt, destAt, zeroAt, lengthOf, size, encode}
 use Rattle.log.specs.Write.{inBytes}
 use Rattle.log.specs.Log.{readBegin, beginOk}
 
@@ -38,6 +38,6 @@ standsBegin n u l = let g : Begin = readBegin u l in both (beginOk g) (stands n 
 -- the fields that a begin record leaves unused are zero: behind its bases, behind its leaves, and its last
 unfoldable pub spareZero : (l : List ℕ) → Bool
 spareZero l =
-    let b : ℕ = 20 + 2 * getD l 18 0 in
-    let c : ℕ = 24 + 2 * getD l 19 0 in
-    all (allZero (part b (24 - b) l) ∷ allZero (part c (40 - c) l) ∷ allZero (part 42 2 l) ∷ [])
+    let b : ℕ = basesAt + 2 * getD l baseCountAt 0 in
+    let c : ℕ = leavesAt + 2 * getD l leafCountAt 0 in
+    all (allZero (part b (leavesAt - b) l) ∷ allZero (part c (destAt - c) l) ∷ allZero (part zeroAt 2 l) ∷ [])

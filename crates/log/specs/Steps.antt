@@ -5,7 +5,7 @@ use Rattle.log.specs.declared.steps.Planned.the-variants.{Out, In, Point
 use Rattle.log.specs.Plan.{Step, takeOut, bringIn, point, close}
 
 unfoldable pub stepOf : Planned → Step
-stepOf (Out org dest) = takeOut org dest
-stepOf (In org dest back) = bringIn org dest back
-stepOf (Point base old new other) = point base old new other
-stepOf (Close unit) = close unit
+stepOf (Out org dest) = takeOut (org .0) (dest .0)
+stepOf (In org dest back) = bringIn (org .0) (dest .0) back
+stepOf (Point base old new other) = point (base .0) (old .0) (new .0) other
+stepOf (Close unit) = close (unit .0)

@@ -2,7 +2,7 @@
 use Prim.Native.Nat.{ℕ}
 use mathlib.Core.List.{List, [], _∷_}
 use lib.ListN.{getD}
-use Rattle.log.specs.Record.{Kind, check, begin, out, into, modify, end}
+use Rattle.log.specs.Record.{letter, Kind, check, begin, out, into, modify, end}
 
 -- LC LB LO LI LM LE
 unfoldable pub kinds : List Kind
@@ -15,4 +15,4 @@ kindAt k = getD kinds k check
 -- the table's bytes: four a kind, its mark, its fixed length, the bytes of each record carried
 unfoldable pub tabled : List Kind → List ℕ
 tabled [] = []
-tabled (c ∷ cs) = 76 ∷ c .sign ∷ c .fixed ∷ c .each ∷ tabled cs
+tabled (c ∷ cs) = letter ∷ c .sign ∷ c .fixed ∷ c .each ∷ tabled cs

@@ -1,7 +1,7 @@
 // The constant table of the six record kinds: what every mark and every length of a record comes from.
 ghost use mathlib.Core.Path.{_≡_};
 ghost use Prim.Native.Nat.{_≤_, _<_};
-ghost use Rattle.log.specs.Record.{lengthOf};
+ghost use Rattle.log.specs.Record.{letter, lengthOf};
 ghost use lib.ListN.{getD};
 ghost use Rattle.log.specs.Table.{kinds, kindAt, tabled};
 
@@ -18,31 +18,44 @@ pub const LM: usize = 4;
 
 pub const LE: usize = 5;
 
+// The fixed lengths of the kinds: of an LO, what stands before its records.
+pub const LC_LONG: usize = 24;
+
+pub const LB_LONG: usize = 44;
+
+pub const LO_LONG: usize = 20;
+
+pub const LI_LONG: usize = 24;
+
+pub const LM_LONG: usize = 28;
+
+pub const LE_LONG: usize = 16;
+
 // Four bytes a kind: the mark, the fixed length, the bytes of each record carried.
 pub const KINDS: [u8; 24] = [
     b'L',
     b'C',
-    24,
+    LC_LONG as u8,
     0,
     b'L',
     b'B',
-    44,
+    LB_LONG as u8,
     0,
     b'L',
     b'O',
-    20,
+    LO_LONG as u8,
     16,
     b'L',
     b'I',
-    24,
+    LI_LONG as u8,
     0,
     b'L',
     b'M',
-    28,
+    LM_LONG as u8,
     0,
     b'L',
     b'E',
-    16,
+    LE_LONG as u8,
     0,
 ];
 
@@ -60,7 +73,15 @@ fn wide(x: u8) -> u16
     x as u16
 }
 
-// The mark's second letter of a kind; the first is always `L`.
+// The mark's first letter of a kind.
+pub fn lead(k: usize) -> u8
+    requires { ⌜ k < 6 ⌝ }
+    ensures { λ r. ⌜ r ≡ letter ⌝ }
+{
+    cell(4 * k)
+}
+
+// The mark's second letter of a kind.
 pub fn sign(k: usize) -> u8
     requires { ⌜ k < 6 ⌝ }
     ensures { λ r. ⌜ r ≡ kindAt k .sign ⌝ }

@@ -3,8 +3,27 @@ ghost use mathlib.Core.Path.{_≡_};
 ghost use Prim.Native.Nat.{_+_, _-_, _*_, _≤_, _<_};
 ghost use lib.ListN.{length, drop, getD};
 ghost use Rattle.field.specs.Bytes.{part, allZero};
+ghost use Rattle.log.specs.Record.{begin};
 ghost use Rattle.log.specs.Stand.{spareZero};
 ghost use Rattle.log.specs.Log.{within, listed, differ, compactOk, swapOk, moveOk, typeOk, beginOk, readFields, readBegin};
+use field::PageNo;
+
+// Where the fields of a begin record stand: type, fill, the two counts, base pages, leaf pages, destination, zero.
+pub const TYPE_AT: usize = 16;
+
+pub const FILL_AT: usize = 17;
+
+pub const BASE_COUNT_AT: usize = 18;
+
+pub const LEAF_COUNT_AT: usize = 19;
+
+pub const BASES_AT: usize = 20;
+
+pub const LEAVES_AT: usize = 24;
+
+pub const DEST_AT: usize = 40;
+
+pub const ZERO_AT: usize = 42;
 
 // The byte at an offset, as a count.
 pub fn byte_at(m: &[u8], i: usize) -> usize
@@ -15,18 +34,18 @@ pub fn byte_at(m: &[u8], i: usize) -> usize
 }
 
 // Whether n listed pages lie in from .. to.
-fn within(m: &[u8], from: u16, to: u16, start: usize, n: usize) -> bool
+fn within(m: &[u8], from: PageNo, to: PageNo, start: usize, n: usize) -> bool
     requires { ⌜ start + 2 * n ≤ length (now m) ⌝ }
-    ensures { λ r. ⌜ r ≡ within from to (readFields n (drop start (now (m .entry)))) ⌝ }
+    ensures { λ r. ⌜ r ≡ within (from .0) (to .0) (readFields n (drop start (now (m .entry)))) ⌝ }
 {
     let mut at = start;
     let mut left = n;
     while 0 < left {
         let p = field::get2(m, at);
-        if p < from {
+        if p < from.0 {
             return false;
         }
-        if to < p {
+        if to.0 < p {
             return false;
         }
         at += 2;
@@ -36,14 +55,14 @@ fn within(m: &[u8], from: u16, to: u16, start: usize, n: usize) -> bool
 }
 
 // Whether the page p is among n listed pages.
-fn listed(m: &[u8], p: u16, start: usize, n: usize) -> bool
+fn listed(m: &[u8], p: PageNo, start: usize, n: usize) -> bool
     requires { ⌜ start + 2 * n ≤ length (now m) ⌝ }
-    ensures { λ r. ⌜ r ≡ listed p (readFields n (drop start (now (m .entry)))) ⌝ }
+    ensures { λ r. ⌜ r ≡ listed (p .0) (readFields n (drop start (now (m .entry)))) ⌝ }
 {
     let mut at = start;
     let mut left = n;
     while 0 < left {
-        if p == field::get2(m, at) {
+        if p.0 == field::get2(m, at) {
             return true;
         }
         at += 2;
@@ -60,7 +79,7 @@ fn differ(m: &[u8], start: usize, n: usize) -> bool
     let mut at = start;
     let mut left = n;
     while 0 < left {
-        let p = field::get2(m, at);
+        let p = PageNo(field::get2(m, at));
         if listed(m, p, at + 2, left - 1) {
             return false;
         }
@@ -72,84 +91,84 @@ fn differ(m: &[u8], start: usize, n: usize) -> bool
 
 // Whether a compact lists 2 to 8 leaves and one base, its fill is 1..15, and its destination is the first listed or unlisted.
 fn compact_ok(m: &[u8]) -> bool
-    requires { ⌜ 44 ≤ length (now m) ⌝ }
+    requires { ⌜ begin .fixed ≤ length (now m) ⌝ }
     ensures { λ r. ⌜ r ≡ compactOk (readBegin 0 (now (m .entry))) ⌝ }
 {
-    if byte_at(m, 18) != 1 {
+    if byte_at(m, BASE_COUNT_AT) != 1 {
         return false;
     }
-    let leaves = byte_at(m, 19);
+    let leaves = byte_at(m, LEAF_COUNT_AT);
     if leaves < 2 {
         return false;
     }
     if 8 < leaves {
         return false;
     }
-    let fill = byte_at(m, 17);
+    let fill = byte_at(m, FILL_AT);
     if fill < 1 {
         return false;
     }
     if 15 < fill {
         return false;
     }
-    if !within(m, 8, 63, 40, 1) {
+    if !within(m, PageNo(8), PageNo(63), DEST_AT, 1) {
         return false;
     }
-    let dest = field::get2(m, 40);
-    if dest == field::get2(m, 24) {
+    let dest = PageNo(field::get2(m, DEST_AT));
+    if dest.0 == field::get2(m, LEAVES_AT) {
         return true;
     }
-    !listed(m, dest, 24, leaves)
+    !listed(m, dest, LEAVES_AT, leaves)
 }
 
 // Whether a swap lists two leaves and one base or two, no fill, destination 0.
 fn swap_ok(m: &[u8]) -> bool
-    requires { ⌜ 44 ≤ length (now m) ⌝ }
+    requires { ⌜ begin .fixed ≤ length (now m) ⌝ }
     ensures { λ r. ⌜ r ≡ swapOk (readBegin 0 (now (m .entry))) ⌝ }
 {
-    let bases = byte_at(m, 18);
+    let bases = byte_at(m, BASE_COUNT_AT);
     if bases < 1 {
         return false;
     }
     if 2 < bases {
         return false;
     }
-    if byte_at(m, 19) != 2 {
+    if byte_at(m, LEAF_COUNT_AT) != 2 {
         return false;
     }
-    if byte_at(m, 17) != 0 {
+    if byte_at(m, FILL_AT) != 0 {
         return false;
     }
-    field::get2(m, 40) == 0
+    field::get2(m, DEST_AT) == 0
 }
 
 // Whether a move lists one leaf and one base, no fill, and its destination is another leaf page.
 fn move_ok(m: &[u8]) -> bool
-    requires { ⌜ 44 ≤ length (now m) ⌝ }
+    requires { ⌜ begin .fixed ≤ length (now m) ⌝ }
     ensures { λ r. ⌜ r ≡ moveOk (readBegin 0 (now (m .entry))) ⌝ }
 {
-    if byte_at(m, 18) != 1 {
+    if byte_at(m, BASE_COUNT_AT) != 1 {
         return false;
     }
-    if byte_at(m, 19) != 1 {
+    if byte_at(m, LEAF_COUNT_AT) != 1 {
         return false;
     }
-    if byte_at(m, 17) != 0 {
+    if byte_at(m, FILL_AT) != 0 {
         return false;
     }
-    if !within(m, 8, 63, 40, 1) {
+    if !within(m, PageNo(8), PageNo(63), DEST_AT, 1) {
         return false;
     }
-    let dest = field::get2(m, 40);
-    !listed(m, dest, 24, 1)
+    let dest = PageNo(field::get2(m, DEST_AT));
+    !listed(m, dest, LEAVES_AT, 1)
 }
 
 // Whether the rules of the record's type hold.
 fn type_ok(m: &[u8]) -> bool
-    requires { ⌜ 44 ≤ length (now m) ⌝ }
+    requires { ⌜ begin .fixed ≤ length (now m) ⌝ }
     ensures { λ r. ⌜ r ≡ typeOk (readBegin 0 (now (m .entry))) ⌝ }
 {
-    let kind = byte_at(m, 16);
+    let kind = byte_at(m, TYPE_AT);
     if kind == 1 {
         return compact_ok(m);
     }
@@ -164,24 +183,24 @@ fn type_ok(m: &[u8]) -> bool
 
 // Whether a begin record keeps all rules but those of its header, its unit number and its unused fields.
 pub fn begin_ok(m: &[u8]) -> bool
-    requires { ⌜ 44 ≤ length (now m) ⌝ }
+    requires { ⌜ begin .fixed ≤ length (now m) ⌝ }
     ensures { λ r. ⌜ r ≡ beginOk (readBegin 0 (now (m .entry))) ⌝ }
 {
-    let bases = byte_at(m, 18);
-    let leaves = byte_at(m, 19);
+    let bases = byte_at(m, BASE_COUNT_AT);
+    let leaves = byte_at(m, LEAF_COUNT_AT);
     if !type_ok(m) {
         return false;
     }
-    if !within(m, 1, 7, 20, bases) {
+    if !within(m, PageNo(1), PageNo(7), BASES_AT, bases) {
         return false;
     }
-    if !differ(m, 20, bases) {
+    if !differ(m, BASES_AT, bases) {
         return false;
     }
-    if !within(m, 8, 63, 24, leaves) {
+    if !within(m, PageNo(8), PageNo(63), LEAVES_AT, leaves) {
         return false;
     }
-    differ(m, 24, leaves)
+    differ(m, LEAVES_AT, leaves)
 }
 
 // Whether n fields of two bytes from the offset start are zero.
@@ -201,16 +220,16 @@ fn unused(m: &[u8], start: usize, n: usize) -> bool
 
 // Whether the fields that a begin record leaves unused are zero.
 pub fn spare_zero(m: &[u8]) -> bool
-    requires { ⌜ (44 ≤ length (now m)) × (getD (now m) 18 0 ≤ 2) × (getD (now m) 19 0 ≤ 8) ⌝ }
+    requires { ⌜ (begin .fixed ≤ length (now m)) × (getD (now m) 18 0 ≤ 2) × (getD (now m) 19 0 ≤ 8) ⌝ }
     ensures { λ r. ⌜ r ≡ spareZero (now (m .entry)) ⌝ }
 {
-    let bases = byte_at(m, 18);
-    let leaves = byte_at(m, 19);
-    if !unused(m, 20 + 2 * bases, 2 - bases) {
+    let bases = byte_at(m, BASE_COUNT_AT);
+    let leaves = byte_at(m, LEAF_COUNT_AT);
+    if !unused(m, BASES_AT + 2 * bases, 2 - bases) {
         return false;
     }
-    if !unused(m, 24 + 2 * leaves, 8 - leaves) {
+    if !unused(m, LEAVES_AT + 2 * leaves, 8 - leaves) {
         return false;
     }
-    unused(m, 42, 1)
+    unused(m, ZERO_AT, 1)
 }

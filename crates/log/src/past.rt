@@ -8,24 +8,27 @@ ghost use lib.Dec.{eqb};
 ghost use Rattle.field.specs.Test.{pick};
 ghost use Rattle.field.specs.Bytes.{le2, le4};
 ghost use Rattle.page.specs.Page.{rowsOf};
-ghost use Rattle.log.specs.Record.{out, into, modify, lengthOf};
+ghost use Rattle.log.specs.Record.{begin, out, into, modify, end, lengthOf};
 ghost use Rattle.log.specs.Log.{largest};
 ghost use Rattle.log.specs.Scan.{begun, went, ended, turned, Ready};
 ghost use Rattle.log.specs.Carries.{Carries};
 use crate::kind;
+use crate::opening;
 use crate::reading;
 use crate::scan::Walk;
+use field::LogNo;
+use field::UnitNo;
 
 // After an LB.
 pub fn begun(w: Walk) -> Walk
-    requires { ⌜ (w .number < 4294967295) × (w .unit < 4294967295) × (w .at + 44 < 18446744073709551616) ⌝ }
+    requires { ⌜ (w .number .0 < 4294967295) × (w .unit .0 < 4294967295) × (w .at + begin .fixed < 18446744073709551616) ⌝ }
     ensures { λ r. ⌜ r ≡ begun w ⌝ }
 {
     Walk {
         ok: true,
         at: w.at + kind::size_of(kind::LB, 0),
-        number: w.number + 1,
-        unit: w.unit + 1,
+        number: LogNo(w.number.0 + 1),
+        unit: UnitNo(w.unit.0 + 1),
         known: w.known,
         lk: w.lk,
         opened: true,
@@ -51,14 +54,15 @@ fn first_rows(done: usize, rows: u16, first: u16) -> u16
 
 // After an LO, LI or LM of so many bytes.
 fn went(w: Walk, long: usize, rows: u16, key: u32, moved: u32) -> Walk
-    requires { ⌜ (w .number < 4294967295) × (w .at + long < 18446744073709551616) × (w .done < w .at + long) ⌝ }
+    requires { ⌜ (w .number .0 < 4294967295) × (w .at + long < 18446744073709551616) × (w .done < w .at + long) ⌝ }
     ensures { λ r. ⌜ r ≡ went w long rows key moved ⌝ }
 {
+    let unit = w.unit;
     Walk {
         ok: true,
         at: w.at + long,
-        number: w.number + 1,
-        unit: w.unit,
+        number: LogNo(w.number.0 + 1),
+        unit,
         known: w.known,
         lk: w.lk,
         opened: true,
@@ -74,17 +78,17 @@ fn went(w: Walk, long: usize, rows: u16, key: u32, moved: u32) -> Walk
 
 // After the LO at the front of m.
 pub fn taken_out(m: &[u8], w: Walk) -> Walk
-    requires { ⌜ (w .number < 4294967295) × (w .at + length (now m) < 18446744073709551616) × (w .done ≤ w .at) × Carries (now m) ⌝ }
+    requires { ⌜ (w .number .0 < 4294967295) × (w .at + length (now m) < 18446744073709551616) × (w .done ≤ w .at) × Carries (now m) ⌝ }
     ensures { λ r. ⌜ r ≡ went w (lengthOf out (le2 (now (m .entry)) 16)) (le2 (now (m .entry)) 16) 0 (largest (w .moved) (rowsOf 16 (le2 (now (m .entry)) 16) (drop 20 (now (m .entry))))) ⌝ }
 {
     let k = field::get2(m, 16);
-    let moved = reading::largest_key(m, w.moved, 20, k);
+    let moved = reading::largest_key(m, w.moved, kind::size_of(kind::LO, 0), k);
     went(w, kind::size_of(kind::LO, k), k, 0, moved)
 }
 
 // After an LI.
 pub fn brought_in(w: Walk) -> Walk
-    requires { ⌜ (w .number < 4294967295) × (w .at + 24 < 18446744073709551616) × (w .done ≤ w .at) ⌝ }
+    requires { ⌜ (w .number .0 < 4294967295) × (w .at + into .fixed < 18446744073709551616) × (w .done ≤ w .at) ⌝ }
     ensures { λ r. ⌜ r ≡ went w (lengthOf into 0) 0 0 (w .moved) ⌝ }
 {
     went(w, kind::size_of(kind::LI, 0), 0, 0, w.moved)
@@ -92,7 +96,7 @@ pub fn brought_in(w: Walk) -> Walk
 
 // After the LM at the front of m.
 pub fn pointed(m: &[u8], w: Walk) -> Walk
-    requires { ⌜ (w .number < 4294967295) × (w .at + 28 < 18446744073709551616) × (w .done ≤ w .at) × (28 ≤ length (now m)) ⌝ }
+    requires { ⌜ (w .number .0 < 4294967295) × (w .at + modify .fixed < 18446744073709551616) × (w .done ≤ w .at) × (modify .fixed ≤ length (now m)) ⌝ }
     ensures { λ r. ⌜ r ≡ went w (lengthOf modify 0) 0 (le4 (now (m .entry)) 20) (w .moved) ⌝ }
 {
     let key = field::get4(m, 20);
@@ -121,14 +125,15 @@ fn lk_after(compact: bool, moved: u32, lk: u32) -> u32
 
 // After an LE.
 pub fn ended(w: Walk, compact: bool) -> Walk
-    requires { ⌜ (w .number < 4294967295) × (w .at + 16 < 18446744073709551616) ⌝ }
+    requires { ⌜ (w .number .0 < 4294967295) × (w .at + end .fixed < 18446744073709551616) ⌝ }
     ensures { λ r. ⌜ r ≡ ended w compact ⌝ }
 {
+    let unit = w.unit;
     Walk {
         ok: true,
         at: w.at + kind::size_of(kind::LE, 0),
-        number: w.number + 1,
-        unit: w.unit,
+        number: LogNo(w.number.0 + 1),
+        unit,
         known: known_after(compact, w.known),
         lk: lk_after(compact, w.moved, w.lk),
         opened: false,
@@ -162,5 +167,5 @@ pub fn past(l: &[u8], w: Walk) -> Walk
     if sign == kind::sign(kind::LB) {
         return begun(w);
     }
-    ended(w, l[begin + 16] == 1)
+    ended(w, l[begin + opening::TYPE_AT] == 1)
 }

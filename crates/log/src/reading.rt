@@ -1,4 +1,5 @@
-// Whether a record stands at an offset of the log: the record that must stand there is written into a few bytes, and these are compared.
+// Whether a record stands at an offset of the log: the record that must stand there is written into a few bytes, as many as an LM has, the
+// longest, and these are compared.
 ghost use mathlib.Core.Path.{_≡_};
 ghost use mathlib.Core.Bool.{true};
 ghost use Prim.Native.Nat.{_+_, _-_, _*_, _%_, _≤_, _<_};
@@ -8,12 +9,15 @@ ghost use Rattle.field.specs.Test.{pick};
 ghost use Rattle.field.specs.Bytes.{starts};
 ghost use Rattle.page.specs.Page.{rowsOf, ascend};
 ghost use Rattle.log.specs.Log.{largest};
-ghost use Rattle.log.specs.Record.{LE, encodeCheck};
+ghost use Rattle.log.specs.Record.{check, LE, encodeCheck};
 ghost use Rattle.log.specs.Write.{checkOf};
 ghost use Rattle.log.specs.Stand.{stands, standsIn, standsModify, standsOut, standsBegin};
 use crate::kind;
 use crate::opening;
 use crate::writing;
+use field::LogNo;
+use field::PageNo;
+use field::UnitNo;
 use page::form;
 
 // Whether the first n bytes of b stand in l from the offset at. A record's length is a number of words of four bytes, and so is n.
@@ -33,51 +37,51 @@ fn same_at(l: &[u8], at: usize, b: &[u8], n: usize) -> bool
 }
 
 // Whether the LE of this unit stands there, with the log number n.
-pub fn is_end(l: &[u8], at: usize, n: u32, unit: u32) -> bool
-    requires { ⌜ (at ≤ length (now l)) × (1 ≤ n) ⌝ }
-    ensures { λ r. ⌜ r ≡ stands n (LE unit) (drop at (now (l .entry))) ⌝ }
+pub fn is_end(l: &[u8], at: usize, n: LogNo, unit: UnitNo) -> bool
+    requires { ⌜ (at ≤ length (now l)) × (1 ≤ n .0) ⌝ }
+    ensures { λ r. ⌜ r ≡ stands (n .0) (LE (unit .0)) (drop at (now (l .entry))) ⌝ }
 {
     let long = kind::size_of(kind::LE, 0);
     if l.len() - at < long {
         return false;
     }
-    let mut b = [0u8; 28];
+    let mut b = [0u8; kind::LM_LONG];
     writing::put_end(&mut b, 0, n, unit);
     same_at(l, at, &b, long)
 }
 
 // Whether an LM of these pages stands there, whatever its key.
-pub fn is_modify(l: &[u8], at: usize, n: u32, base: u16, old: u16, new: u16) -> bool
-    requires { ⌜ (at ≤ length (now l)) × (1 ≤ n) ⌝ }
-    ensures { λ r. ⌜ r ≡ standsModify n base old new (drop at (now (l .entry))) ⌝ }
+pub fn is_modify(l: &[u8], at: usize, n: LogNo, base: PageNo, old: PageNo, new: PageNo) -> bool
+    requires { ⌜ (at ≤ length (now l)) × (1 ≤ n .0) ⌝ }
+    ensures { λ r. ⌜ r ≡ standsModify (n .0) (base .0) (old .0) (new .0) (drop at (now (l .entry))) ⌝ }
 {
     let long = kind::size_of(kind::LM, 0);
     if l.len() - at < long {
         return false;
     }
     let key = field::get4(l, at + 20);
-    let mut b = [0u8; 28];
+    let mut b = [0u8; kind::LM_LONG];
     writing::put_modify(&mut b, 0, n, base, old, new, key);
     same_at(l, at, &b, long)
 }
 
 // Whether an LI of these pages stands there, of as many records as its LO, which stands `back` records before.
-pub fn is_in(l: &[u8], at: usize, n: u32, org: u16, dest: u16, back: u32, rows: u16) -> bool
-    requires { ⌜ (at ≤ length (now l)) × (1 ≤ n) ⌝ }
-    ensures { λ r. ⌜ r ≡ standsIn n org dest back rows (drop at (now (l .entry))) ⌝ }
+pub fn is_in(l: &[u8], at: usize, n: LogNo, org: PageNo, dest: PageNo, back: u32, rows: u16) -> bool
+    requires { ⌜ (at ≤ length (now l)) × (1 ≤ n .0) ⌝ }
+    ensures { λ r. ⌜ r ≡ standsIn (n .0) (org .0) (dest .0) back rows (drop at (now (l .entry))) ⌝ }
 {
     let long = kind::size_of(kind::LI, 0);
     if l.len() - at < long {
         return false;
     }
-    let mut b = [0u8; 28];
+    let mut b = [0u8; kind::LM_LONG];
     writing::put_in(&mut b, 0, n, org, dest, rows, back);
     same_at(l, at, &b, long)
 }
 
-// Whether an LB of this unit stands at the front of m.
-pub fn is_begin(m: &[u8], n: u32, unit: u32) -> bool
-    ensures { λ r. ⌜ r ≡ standsBegin n unit (now (m .entry)) ⌝ }
+// Whether an LB of this unit stands at the front of m. Of its bytes those are compared that an LE has too: header and unit number.
+pub fn is_begin(m: &[u8], n: LogNo, unit: UnitNo) -> bool
+    ensures { λ r. ⌜ r ≡ standsBegin (n .0) (unit .0) (now (m .entry)) ⌝ }
 {
     if m.len() < kind::size_of(kind::LB, 0) {
         return false;
@@ -88,9 +92,9 @@ pub fn is_begin(m: &[u8], n: u32, unit: u32) -> bool
     if !opening::spare_zero(m) {
         return false;
     }
-    let mut b = [0u8; 28];
-    writing::put_unit(&mut b, 0, kind::LB, n, 0, unit);
-    same_at(m, 0, &b, 16)
+    let mut b = [0u8; kind::LM_LONG];
+    writing::put_unit(&mut b, 0, kind::LB, n, LogNo(0), unit);
+    same_at(m, 0, &b, kind::size_of(kind::LE, 0))
 }
 
 fn larger(a: u32, b: u32) -> u32
@@ -112,9 +116,9 @@ pub fn largest_key(m: &[u8], from: u32, start: usize, n: u16) -> u32
 }
 
 // Whether an LO of these pages stands at the front of m, of 1 to 15 records that bear marks and ascend.
-pub fn is_out(m: &[u8], n: u32, org: u16, dest: u16) -> bool
-    requires { ⌜ 1 ≤ n ⌝ }
-    ensures { λ r. ⌜ r ≡ standsOut n org dest (now (m .entry)) ⌝ }
+pub fn is_out(m: &[u8], n: LogNo, org: PageNo, dest: PageNo) -> bool
+    requires { ⌜ 1 ≤ n .0 ⌝ }
+    ensures { λ r. ⌜ r ≡ standsOut (n .0) (org .0) (dest .0) (now (m .entry)) ⌝ }
 {
     let fixed = kind::size_of(kind::LO, 0);
     if m.len() < fixed {
@@ -133,17 +137,17 @@ pub fn is_out(m: &[u8], n: u32, org: u16, dest: u16) -> bool
     if !form::records_ascend(m, fixed, k as usize) {
         return false;
     }
-    let mut b = [0u8; 28];
+    let mut b = [0u8; kind::LM_LONG];
     writing::put_paged(&mut b, 0, kind::LO, k, n, org, dest, k);
     same_at(m, 0, &b, fixed)
 }
 
 // Whether the check record of these numbers stands at the front of l.
-pub fn is_check(l: &[u8], n: u32, unit: u32, known: bool, key: u32) -> bool
-    requires { ⌜ 24 ≤ length (now l) ⌝ }
-    ensures { λ r. ⌜ r ≡ starts (encodeCheck (checkOf n unit known key)) (now (l .entry)) ⌝ }
+pub fn is_check(l: &[u8], n: LogNo, unit: UnitNo, known: bool, key: u32) -> bool
+    requires { ⌜ check .fixed ≤ length (now l) ⌝ }
+    ensures { λ r. ⌜ r ≡ starts (encodeCheck (checkOf (n .0) (unit .0) known key)) (now (l .entry)) ⌝ }
 {
-    let mut b = [0u8; 28];
+    let mut b = [0u8; kind::LM_LONG];
     writing::put_check(&mut b, n, unit, known, key);
     same_at(l, 0, &b, kind::size_of(kind::LC, 0))
 }

@@ -5,18 +5,23 @@ ghost use Prim.Native.Nat.{_+_, _-_, _*_, _≤_, _<_};
 ghost use lib.ListN.{length, drop, getD};
 ghost use lib.Dec.{eqb};
 ghost use Rattle.field.specs.Test.{pick};
+ghost use Rattle.log.specs.Record.{begin};
 ghost use Rattle.log.specs.Plan.{takeOut, bringIn, point, close, plan};
 ghost use Rattle.log.specs.Log.{beginOk, readBegin};
 ghost use Rattle.log.specs.Stand.{standsBegin};
 ghost use Rattle.log.specs.Steps.{stepOf};
 ghost use Rattle.log.specs.Scan.{lost, begun, stepped, turned, Ready, topped, noted, live, finished, scanned};
 use crate::kind;
+use crate::opening;
 use crate::past;
 use crate::reading;
 use crate::source;
 use crate::steps;
 use crate::steps::Planned;
 use crate::writing;
+use field::LogNo;
+use field::PageNo;
+use field::UnitNo;
 
 // What is known after a record: the log's end and its last number, the last unit, LK; of an open unit where its LB stands, how many of
 // its steps are done, where the record before stands, how many records that one and the unit's first carry, the key of the LM before (0 if
@@ -24,8 +29,8 @@ use crate::writing;
 pub struct Walk {
     pub ok: bool,
     pub at: usize,
-    pub number: u32,
-    pub unit: u32,
+    pub number: LogNo,
+    pub unit: UnitNo,
     pub known: bool,
     pub lk: u32,
     pub opened: bool,
@@ -42,13 +47,13 @@ pub struct Walk {
 pub struct Scan {
     pub walk: Walk,
     pub ends: bool,
-    pub forced: u32,
+    pub forced: LogNo,
 }
 
 // Whether a record was found that ends at the bytes forced, and its number.
 pub struct Mark {
     pub ends: bool,
-    pub number: u32,
+    pub number: LogNo,
 }
 
 // Log form broken.
@@ -58,8 +63,8 @@ fn lost() -> Walk
     Walk {
         ok: false,
         at: 0,
-        number: 0,
-        unit: 0,
+        number: LogNo(0),
+        unit: UnitNo(0),
         known: false,
         lk: 0,
         opened: false,
@@ -75,58 +80,58 @@ fn lost() -> Walk
 
 // An LB at the front of m.
 fn begin_turn(m: &[u8], w: Walk) -> Walk
-    requires { ⌜ (w .number < 4294967295) × (w .at + length (now m) < 18446744073709551616) ⌝ }
-    ensures { λ r. ⌜ r ≡ pick (standsBegin (w .number + 1) (w .unit + 1) (now (m .entry))) (begun w) lost ⌝ }
+    requires { ⌜ (w .number .0 < 4294967295) × (w .at + length (now m) < 18446744073709551616) ⌝ }
+    ensures { λ r. ⌜ r ≡ pick (standsBegin (w .number .0 + 1) (w .unit .0 + 1) (now (m .entry))) (begun w) lost ⌝ }
 {
-    if w.unit == 4294967295 {
+    if w.unit.0 == 4294967295 {
         return lost();
     }
-    if !reading::is_begin(m, w.number + 1, w.unit + 1) {
+    if !reading::is_begin(m, LogNo(w.number.0 + 1), UnitNo(w.unit.0 + 1)) {
         return lost();
     }
     past::begun(w)
 }
 
 // The LO of a step at the front of m.
-fn out_turn(m: &[u8], w: Walk, org: u16, dest: u16) -> Walk
-    requires { ⌜ (w .number < 4294967295) × (w .at + length (now m) < 18446744073709551616) × (w .done ≤ w .at) ⌝ }
-    ensures { λ r. ⌜ r ≡ stepped w (now (m .entry)) false (takeOut org dest) ⌝ }
+fn out_turn(m: &[u8], w: Walk, org: PageNo, dest: PageNo) -> Walk
+    requires { ⌜ (w .number .0 < 4294967295) × (w .at + length (now m) < 18446744073709551616) × (w .done ≤ w .at) ⌝ }
+    ensures { λ r. ⌜ r ≡ stepped w (now (m .entry)) false (takeOut (org .0) (dest .0)) ⌝ }
 {
-    if !reading::is_out(m, w.number + 1, org, dest) {
+    if !reading::is_out(m, LogNo(w.number.0 + 1), org, dest) {
         return lost();
     }
     past::taken_out(m, w)
 }
 
 // The LI of a step at the front of m.
-fn in_turn(m: &[u8], w: Walk, org: u16, dest: u16, back: u32) -> Walk
-    requires { ⌜ (w .number < 4294967295) × (w .at + length (now m) < 18446744073709551616) × (w .done ≤ w .at) ⌝ }
-    ensures { λ r. ⌜ r ≡ stepped w (now (m .entry)) false (bringIn org dest back) ⌝ }
+fn in_turn(m: &[u8], w: Walk, org: PageNo, dest: PageNo, back: u32) -> Walk
+    requires { ⌜ (w .number .0 < 4294967295) × (w .at + length (now m) < 18446744073709551616) × (w .done ≤ w .at) ⌝ }
+    ensures { λ r. ⌜ r ≡ stepped w (now (m .entry)) false (bringIn (org .0) (dest .0) back) ⌝ }
 {
     let rows = source::source_rows(w, back);
-    if !reading::is_in(m, 0, w.number + 1, org, dest, back, rows) {
+    if !reading::is_in(m, 0, LogNo(w.number.0 + 1), org, dest, back, rows) {
         return lost();
     }
     past::brought_in(w)
 }
 
 // The LM of a step at the front of m.
-fn point_turn(m: &[u8], w: Walk, base: u16, old: u16, new: u16) -> Walk
-    requires { ⌜ (w .number < 4294967295) × (w .at + length (now m) < 18446744073709551616) × (w .done ≤ w .at) ⌝ }
-    ensures { λ r. ⌜ r ≡ stepped w (now (m .entry)) false (point base old new false) ⌝ }
+fn point_turn(m: &[u8], w: Walk, base: PageNo, old: PageNo, new: PageNo) -> Walk
+    requires { ⌜ (w .number .0 < 4294967295) × (w .at + length (now m) < 18446744073709551616) × (w .done ≤ w .at) ⌝ }
+    ensures { λ r. ⌜ r ≡ stepped w (now (m .entry)) false (point (base .0) (old .0) (new .0) false) ⌝ }
 {
-    if !reading::is_modify(m, 0, w.number + 1, base, old, new) {
+    if !reading::is_modify(m, 0, LogNo(w.number.0 + 1), base, old, new) {
         return lost();
     }
     past::pointed(m, w)
 }
 
 // The LE of a unit at the front of m.
-fn end_turn(m: &[u8], w: Walk, compact: bool, unit: u32) -> Walk
-    requires { ⌜ (w .number < 4294967295) × (w .at + length (now m) < 18446744073709551616) ⌝ }
-    ensures { λ r. ⌜ r ≡ stepped w (now (m .entry)) compact (close unit) ⌝ }
+fn end_turn(m: &[u8], w: Walk, compact: bool, unit: UnitNo) -> Walk
+    requires { ⌜ (w .number .0 < 4294967295) × (w .at + length (now m) < 18446744073709551616) ⌝ }
+    ensures { λ r. ⌜ r ≡ stepped w (now (m .entry)) compact (close (unit .0)) ⌝ }
 {
-    if !reading::is_end(m, 0, w.number + 1, unit) {
+    if !reading::is_end(m, 0, LogNo(w.number.0 + 1), unit) {
         return lost();
     }
     past::ended(w, compact)
@@ -134,7 +139,7 @@ fn end_turn(m: &[u8], w: Walk, compact: bool, unit: u32) -> Walk
 
 // The record of a planned step at the front of m.
 fn step_turn(m: &[u8], w: Walk, compact: bool, x: Planned) -> Walk
-    requires { ⌜ (w .number < 4294967295) × (w .at + length (now m) < 18446744073709551616) × (w .done ≤ w .at) ⌝ }
+    requires { ⌜ (w .number .0 < 4294967295) × (w .at + length (now m) < 18446744073709551616) × (w .done ≤ w .at) ⌝ }
     ensures { λ r. ⌜ r ≡ stepped w (now (m .entry)) compact (stepOf x) ⌝ }
 {
     match x {
@@ -152,9 +157,9 @@ fn step_turn(m: &[u8], w: Walk, compact: bool, x: Planned) -> Walk
 
 // The step i of the unit whose begin record stands at the front of m, where it is known whether that is a compact. It has one caller, and
 // so is compiled in its place in the pass, where `steps::step_at` would be a call at each record.
-fn step_of(m: &[u8], compact: bool, unit: u32, i: usize) -> Planned
-    requires { ⌜ (44 ≤ length (now m)) × (beginOk (readBegin unit (now m)) ≡ true) × (compact ≡ eqb (getD (now m) 16 0) 1) ⌝ }
-    ensures { λ r. ⌜ stepOf r ≡ getD (plan (readBegin unit (now (m .entry)))) i (close unit) ⌝ }
+fn step_of(m: &[u8], compact: bool, unit: UnitNo, i: usize) -> Planned
+    requires { ⌜ (begin .fixed ≤ length (now m)) × (beginOk (readBegin (unit .0) (now m)) ≡ true) × (compact ≡ eqb (getD (now m) 16 0) 1) ⌝ }
+    ensures { λ r. ⌜ stepOf r ≡ getD (plan (readBegin (unit .0) (now (m .entry)))) i (close (unit .0)) ⌝ }
 {
     if compact {
         return steps::compact_step(m, unit, i);
@@ -169,13 +174,13 @@ fn turn(l: &[u8], w: Walk) -> Walk
 {
     let at = w.at;
     let begin = w.begin;
-    if w.number == 4294967295 {
+    if w.number.0 == 4294967295 {
         return lost();
     }
     if !w.opened {
         return begin_turn(&l[at..], w);
     }
-    let compact = l[begin + 16] == 1;
+    let compact = l[begin + opening::TYPE_AT] == 1;
     let x = step_of(&l[begin..], compact, w.unit, w.done);
     step_turn(&l[at..], w, compact, x)
 }
@@ -188,8 +193,8 @@ pub fn top(l: &[u8]) -> Walk
     if l.len() < long {
         return lost();
     }
-    let number = field::get4(l, 4);
-    let unit = field::get4(l, 12);
+    let number = LogNo(field::get4(l, 4));
+    let unit = UnitNo(field::get4(l, 12));
     let known = l[16] != 0;
     let key = field::get4(l, 20);
     if !reading::is_check(l, number, unit, known, key) {
@@ -214,13 +219,13 @@ pub fn top(l: &[u8]) -> Walk
 }
 
 // Notes the record that ends at `at` where nothing was found yet.
-fn noted(e: Mark, at: usize, number: u32, forced: u32) -> Mark
-    ensures { λ r. ⌜ r ≡ noted e at number forced ⌝ }
+fn noted(e: Mark, at: usize, number: LogNo, forced: u32) -> Mark
+    ensures { λ r. ⌜ r ≡ noted e at (number .0) forced ⌝ }
 {
     if at != forced as usize {
         return Mark {
             ends: e.ends,
-            number: writing::number_if(e.ends, e.number),
+            number: LogNo(writing::number_if(e.ends, e.number.0)),
         };
     }
     if e.ends {
@@ -249,24 +254,25 @@ fn finish(l: &[u8], w: Walk, e: Mark) -> Scan
     ensures { λ r. ⌜ r ≡ finished (now (l .entry)) w e ⌝ }
 {
     let at = w.at;
+    let forced = e.number;
     if !w.ok {
         return Scan {
             walk: lost(),
             ends: false,
-            forced: 0,
+            forced: LogNo(0),
         };
     }
     if !field::zeros_long(&l[at..]) {
         return Scan {
             walk: lost(),
             ends: false,
-            forced: 0,
+            forced: LogNo(0),
         };
     }
     Scan {
         walk: w,
         ends: e.ends,
-        forced: e.number,
+        forced,
     }
 }
 
@@ -277,7 +283,7 @@ pub fn scan_log(l: &[u8], forced: u32) -> Scan
     let mut w = top(l);
     let mut e = Mark {
         ends: false,
-        number: 0,
+        number: LogNo(0),
     };
     while live(l, w) {
         e = noted(e, w.at, w.number, forced);

@@ -2,13 +2,14 @@
 // first, which stands behind LB.
 ghost use mathlib.Core.Path.{_≡_};
 ghost use Prim.Native.Nat.{_+_, _<_};
+ghost use Rattle.log.specs.Record.{begin};
 ghost use Rattle.log.specs.Source.{sourceAt, sourceRows};
 use crate::kind;
 use crate::scan::Walk;
 
 // Where the LO stands that is `back` records before.
 pub fn source_at(w: Walk, back: u32) -> usize
-    requires { ⌜ w .begin + 44 < 18446744073709551616 ⌝ }
+    requires { ⌜ w .begin + begin .fixed < 18446744073709551616 ⌝ }
     ensures { λ r. ⌜ r ≡ sourceAt w back ⌝ }
 {
     if back == 1 {

@@ -7,36 +7,39 @@ ghost use lib.ListN.{length, drop, getD};
 ghost use lib.Dec.{eqb};
 ghost use Rattle.field.specs.Test.{pick};
 ghost use Rattle.field.specs.Bytes.{le2};
+ghost use Rattle.log.specs.Record.{begin};
 ghost use Rattle.log.specs.Plan.{takeOut, bringIn, close, compactPlan, swapPlan, movePlan, plan};
 ghost use Rattle.log.specs.Log.{beginOk, readFields, readBegin};
 ghost use Rattle.log.specs.Steps.{stepOf};
 use crate::opening;
+use field::PageNo;
+use field::UnitNo;
 
 // A step: LO, LI (its LO stands `back` records before), LM (`other`: not the entry that the LM before changed), LE.
 pub enum Planned {
     Out {
-        org: u16,
-        dest: u16,
+        org: PageNo,
+        dest: PageNo,
     },
     In {
-        org: u16,
-        dest: u16,
+        org: PageNo,
+        dest: PageNo,
         back: u32,
     },
     Point {
-        base: u16,
-        old: u16,
-        new: u16,
+        base: PageNo,
+        old: PageNo,
+        new: PageNo,
         other: bool,
     },
     Close {
-        unit: u32,
+        unit: UnitNo,
     },
 }
 
 // The step i of a move.
-fn move_step(base: u16, org: u16, dest: u16, unit: u32, i: usize) -> Planned
-    ensures { λ r. ⌜ stepOf r ≡ getD (movePlan base org dest ++ (close unit ∷ [])) i (close unit) ⌝ }
+fn move_step(base: PageNo, org: PageNo, dest: PageNo, unit: UnitNo, i: usize) -> Planned
+    ensures { λ r. ⌜ stepOf r ≡ getD (movePlan (base .0) (org .0) (dest .0) ++ (close (unit .0) ∷ [])) i (close (unit .0)) ⌝ }
 {
     if i == 0 {
         return Planned::Out { org, dest };
@@ -56,8 +59,8 @@ fn move_step(base: u16, org: u16, dest: u16, unit: u32, i: usize) -> Planned
 }
 
 // The step i of a swap of the leaves a and b, whose base pages are p and q.
-fn swap_step(p: u16, q: u16, a: u16, b: u16, unit: u32, i: usize) -> Planned
-    ensures { λ r. ⌜ stepOf r ≡ getD (swapPlan p q a b ++ (close unit ∷ [])) i (close unit) ⌝ }
+fn swap_step(p: PageNo, q: PageNo, a: PageNo, b: PageNo, unit: UnitNo, i: usize) -> Planned
+    ensures { λ r. ⌜ stepOf r ≡ getD (swapPlan (p .0) (q .0) (a .0) (b .0) ++ (close (unit .0) ∷ [])) i (close (unit .0)) ⌝ }
 {
     if i == 0 {
         return Planned::Out { org: a, dest: b };
@@ -92,15 +95,15 @@ fn swap_step(p: u16, q: u16, a: u16, b: u16, unit: u32, i: usize) -> Planned
             base: p,
             old: a,
             new: b,
-            other: p == q,
+            other: p.0 == q.0,
         };
     }
     Planned::Close { unit }
 }
 
 // The first of two steps for a page that is gathered, or the second.
-fn gather_step(p: u16, dest: u16, i: usize) -> Planned
-    ensures { λ r. ⌜ stepOf r ≡ pick (eqb (i % 2) 0) (takeOut p dest) (bringIn p dest 1) ⌝ }
+fn gather_step(p: PageNo, dest: PageNo, i: usize) -> Planned
+    ensures { λ r. ⌜ stepOf r ≡ pick (eqb (i % 2) 0) (takeOut (p .0) (dest .0)) (bringIn (p .0) (dest .0) 1) ⌝ }
 {
     if i % 2 == 0 {
         return Planned::Out { org: p, dest };
@@ -113,28 +116,32 @@ fn gather_step(p: u16, dest: u16, i: usize) -> Planned
 }
 
 // How many listed leaves are not gathered: the first, where it is the destination.
-fn skipped(first: u16, dest: u16) -> usize
-    ensures { λ r. ⌜ (r ≡ pick (eqb first dest) 1 0) × (r ≤ 1) ⌝ }
+fn skipped(first: PageNo, dest: PageNo) -> usize
+    ensures { λ r. ⌜ (r ≡ pick (eqb (first .0) (dest .0)) 1 0) × (r ≤ 1) ⌝ }
 {
-    if first == dest {
+    if first.0 == dest.0 {
         return 1;
     }
     0
 }
 
 // The step i of a compact.
-pub fn compact_step(m: &[u8], unit: u32, i: usize) -> Planned
-    requires { ⌜ (44 ≤ length (now m)) × (beginOk (readBegin unit (now m)) ≡ true) × (getD (now m) 16 0 ≡ 1) ⌝ }
-    ensures { λ r. ⌜ stepOf r ≡ getD (compactPlan (le2 (now (m .entry)) 20) (le2 (now (m .entry)) 40) (readFields (getD (now (m .entry)) 19 0) (drop 24 (now (m .entry)))) ++ (close unit ∷ [])) i (close unit) ⌝ }
+pub fn compact_step(m: &[u8], unit: UnitNo, i: usize) -> Planned
+    requires { ⌜ (begin .fixed ≤ length (now m)) × (beginOk (readBegin (unit .0) (now m)) ≡ true) × (getD (now m) 16 0 ≡ 1) ⌝ }
+    ensures { λ r. ⌜ stepOf r ≡ getD (compactPlan (le2 (now (m .entry)) 20) (le2 (now (m .entry)) 40) (readFields (getD (now (m .entry)) 19 0) (drop 24 (now (m .entry)))) ++ (close (unit .0) ∷ [])) i (close (unit .0)) ⌝ }
 {
-    let base = field::get2(m, 20);
-    let first = field::get2(m, 24);
-    let dest = field::get2(m, 40);
-    let leaves = opening::byte_at(m, 19);
+    let base = PageNo(field::get2(m, opening::BASES_AT));
+    let first = PageNo(field::get2(m, opening::LEAVES_AT));
+    let dest = PageNo(field::get2(m, opening::DEST_AT));
+    let leaves = opening::byte_at(m, opening::LEAF_COUNT_AT);
     let skip = skipped(first, dest);
     let pairs = 2 * (leaves - skip);
     if i < pairs {
-        return gather_step(field::get2(m, 24 + 2 * (i / 2 + skip)), dest, i);
+        return gather_step(
+            PageNo(field::get2(m, opening::LEAVES_AT + 2 * (i / 2 + skip))),
+            dest,
+            i,
+        );
     }
     let j = i - pairs + skip;
     if j == 0 {
@@ -148,8 +155,8 @@ pub fn compact_step(m: &[u8], unit: u32, i: usize) -> Planned
     if j < leaves {
         return Planned::Point {
             base,
-            old: field::get2(m, 24 + 2 * j),
-            new: 0,
+            old: PageNo(field::get2(m, opening::LEAVES_AT + 2 * j)),
+            new: PageNo(0),
             other: false,
         };
     }
@@ -157,53 +164,63 @@ pub fn compact_step(m: &[u8], unit: u32, i: usize) -> Planned
 }
 
 // The base page of a swap's second leaf.
-fn second_base(m: &[u8]) -> u16
-    requires { ⌜ (44 ≤ length (now m)) × (1 ≤ getD (now m) 18 0) ⌝ }
-    ensures { λ r. ⌜ r ≡ getD (readFields (getD (now (m .entry)) 18 0) (drop 20 (now (m .entry)))) 1 (le2 (now (m .entry)) 20) ⌝ }
+fn second_base(m: &[u8]) -> PageNo
+    requires { ⌜ (begin .fixed ≤ length (now m)) × (1 ≤ getD (now m) 18 0) ⌝ }
+    ensures { λ r. ⌜ r .0 ≡ getD (readFields (getD (now (m .entry)) 18 0) (drop 20 (now (m .entry)))) 1 (le2 (now (m .entry)) 20) ⌝ }
 {
-    if opening::byte_at(m, 18) < 2 {
-        return field::get2(m, 20);
+    if opening::byte_at(m, opening::BASE_COUNT_AT) < 2 {
+        return PageNo(field::get2(m, opening::BASES_AT));
     }
-    field::get2(m, 22)
+    PageNo(field::get2(m, opening::BASES_AT + 2))
 }
 
 // The step i of a swap or a move.
-pub fn other_step(m: &[u8], unit: u32, i: usize) -> Planned
-    requires { ⌜ (44 ≤ length (now m)) × (beginOk (readBegin unit (now m)) ≡ true) × (eqb (getD (now m) 16 0) 1 ≡ false) ⌝ }
-    ensures { λ r. ⌜ stepOf r ≡ getD (plan (readBegin unit (now (m .entry)))) i (close unit) ⌝ }
+pub fn other_step(m: &[u8], unit: UnitNo, i: usize) -> Planned
+    requires { ⌜ (begin .fixed ≤ length (now m)) × (beginOk (readBegin (unit .0) (now m)) ≡ true) × (eqb (getD (now m) 16 0) 1 ≡ false) ⌝ }
+    ensures { λ r. ⌜ stepOf r ≡ getD (plan (readBegin (unit .0) (now (m .entry)))) i (close (unit .0)) ⌝ }
 {
-    let base = field::get2(m, 20);
-    let org = field::get2(m, 24);
-    if opening::byte_at(m, 16) == 2 {
-        return swap_step(base, second_base(m), org, field::get2(m, 26), unit, i);
+    let base = PageNo(field::get2(m, opening::BASES_AT));
+    let org = PageNo(field::get2(m, opening::LEAVES_AT));
+    if opening::byte_at(m, opening::TYPE_AT) == 2 {
+        return swap_step(
+            base,
+            second_base(m),
+            org,
+            PageNo(field::get2(m, opening::LEAVES_AT + 2)),
+            unit,
+            i,
+        );
     }
-    move_step(base, org, field::get2(m, 40), unit, i)
+    move_step(base, org, PageNo(field::get2(m, opening::DEST_AT)), unit, i)
 }
 
 // The step i of the unit whose begin record stands at the front of m; past its end, the end.
-pub fn step_at(m: &[u8], unit: u32, i: usize) -> Planned
-    requires { ⌜ (44 ≤ length (now m)) × (beginOk (readBegin unit (now m)) ≡ true) ⌝ }
-    ensures { λ r. ⌜ stepOf r ≡ getD (plan (readBegin unit (now (m .entry)))) i (close unit) ⌝ }
+pub fn step_at(m: &[u8], unit: UnitNo, i: usize) -> Planned
+    requires { ⌜ (begin .fixed ≤ length (now m)) × (beginOk (readBegin (unit .0) (now m)) ≡ true) ⌝ }
+    ensures { λ r. ⌜ stepOf r ≡ getD (plan (readBegin (unit .0) (now (m .entry)))) i (close (unit .0)) ⌝ }
 {
-    if opening::byte_at(m, 16) == 1 {
+    if opening::byte_at(m, opening::TYPE_AT) == 1 {
         return compact_step(m, unit, i);
     }
     other_step(m, unit, i)
 }
 
 // How many steps a unit has after its LB: of k leaves, 3 k - 2 in place and 3 k + 1 otherwise; a swap 7, a move 4.
-pub fn step_count(m: &[u8], unit: u32) -> usize
-    requires { ⌜ (44 ≤ length (now m)) × (beginOk (readBegin unit (now m)) ≡ true) ⌝ }
-    ensures { λ r. ⌜ r ≡ length (plan (readBegin unit (now (m .entry)))) ⌝ }
+pub fn step_count(m: &[u8], unit: UnitNo) -> usize
+    requires { ⌜ (begin .fixed ≤ length (now m)) × (beginOk (readBegin (unit .0) (now m)) ≡ true) ⌝ }
+    ensures { λ r. ⌜ r ≡ length (plan (readBegin (unit .0) (now (m .entry)))) ⌝ }
 {
-    let kind = opening::byte_at(m, 16);
+    let kind = opening::byte_at(m, opening::TYPE_AT);
     if kind == 2 {
         return 7;
     }
     if kind == 3 {
         return 4;
     }
-    let leaves = opening::byte_at(m, 19);
-    let skip = skipped(field::get2(m, 24), field::get2(m, 40));
+    let leaves = opening::byte_at(m, opening::LEAF_COUNT_AT);
+    let skip = skipped(
+        PageNo(field::get2(m, opening::LEAVES_AT)),
+        PageNo(field::get2(m, opening::DEST_AT)),
+    );
     3 * leaves + 1 - 3 * skip
 }

@@ -6,108 +6,130 @@ ghost use lib.ListN.{length, getD};
 ghost use Rattle.field.specs.Test.{pick};
 ghost use Rattle.field.specs.Bytes.{put};
 ghost use Rattle.page.specs.Page.{rowsOf};
-ghost use Rattle.log.specs.Record.{LB, LO, LM, LE, header, fields, newKey, encode, encodeCheck};
+ghost use Rattle.log.specs.Record.{letter, check, begin, out, into, modify, end, LB, LO, LM, LE, header, fields, newKey, encode, encodeCheck};
 ghost use Rattle.log.specs.Table.{kindAt};
 ghost use Rattle.log.specs.Write.{unitHead, paged, inBytes, checkOf, beginOf};
 use crate::kind;
+use crate::opening;
+use field::LogNo;
+use field::PageNo;
+use field::UnitNo;
 
 // The mark of the kind k.
 fn put_mark(s: &mut [u8], at: usize, k: usize)
     requires { ⌜ (k < 6) × (at + 2 ≤ length (now s)) ⌝ }
-    ensures { λ _. ⌜ now (s .exit) ≡ put at (76 ∷ kindAt k .sign ∷ []) (now (s .entry)) ⌝ }
+    ensures { λ _. ⌜ now (s .exit) ≡ put at (letter ∷ kindAt k .sign ∷ []) (now (s .entry)) ⌝ }
 {
+    let first = kind::lead(k);
     let second = kind::sign(k);
-    s[at] = b'L';
+    s[at] = first;
     s[at + 1] = second;
 }
 
 // The header of a record of the kind k: mark, whole length, log number, previous log number.
-fn put_header(s: &mut [u8], at: usize, k: usize, long: u16, n: u32, prior: u32)
+fn put_header(s: &mut [u8], at: usize, k: usize, long: u16, n: LogNo, prior: LogNo)
     requires { ⌜ (k < 6) × (at + 12 ≤ length (now s)) ⌝ }
-    ensures { λ _. ⌜ now (s .exit) ≡ put at (header (kindAt k) long n prior) (now (s .entry)) ⌝ }
+    ensures { λ _. ⌜ now (s .exit) ≡ put at (header (kindAt k) long (n .0) (prior .0)) (now (s .entry)) ⌝ }
 {
     put_mark(s, at, k);
     field::put2(s, at + 2, long);
-    field::put4(s, at + 4, n);
-    field::put4(s, at + 8, prior);
+    field::put4(s, at + 4, n.0);
+    field::put4(s, at + 8, prior.0);
 }
 
 // A header and a unit number: all of an LE, and the front of an LB.
-pub fn put_unit(s: &mut [u8], at: usize, k: usize, n: u32, prior: u32, unit: u32)
-    requires { ⌜ (k < 6) × (at + 16 ≤ length (now s)) ⌝ }
-    ensures { λ _. ⌜ now (s .exit) ≡ put at (unitHead (kindAt k) n prior unit) (now (s .entry)) ⌝ }
+pub fn put_unit(s: &mut [u8], at: usize, k: usize, n: LogNo, prior: LogNo, unit: UnitNo)
+    requires { ⌜ (k < 6) × (at + end .fixed ≤ length (now s)) ⌝ }
+    ensures { λ _. ⌜ now (s .exit) ≡ put at (unitHead (kindAt k) (n .0) (prior .0) (unit .0)) (now (s .entry)) ⌝ }
 {
     put_header(s, at, k, kind::length_of(k, 0), n, prior);
-    field::put4(s, at + 12, unit);
+    field::put4(s, at + 12, unit.0);
 }
 
-// A header and three numbers of two bytes, then zero: the front of an LO, an LI and an LM.
-pub fn put_paged(s: &mut [u8], at: usize, k: usize, rows: u16, n: u32, a: u16, b: u16, c: u16)
-    requires { ⌜ (k < 6) × (rows ≤ 15) × (1 ≤ n) × (at + 20 ≤ length (now s)) ⌝ }
-    ensures { λ _. ⌜ now (s .exit) ≡ put at (paged (kindAt k) rows n a b c) (now (s .entry)) ⌝ }
+// The log number of the record `back` records before, 0 where there is none.
+fn earlier(n: LogNo, back: u32) -> LogNo
+    ensures { λ r. ⌜ r .0 ≡ n .0 - back ⌝ }
 {
-    put_header(s, at, k, kind::length_of(k, rows), n, n - 1);
-    field::put2(s, at + 12, a);
-    field::put2(s, at + 14, b);
+    if n.0 < back {
+        return LogNo(0);
+    }
+    LogNo(n.0 - back)
+}
+
+// A header, two pages, a number of two bytes and zero: the front of an LO, an LI and an LM.
+pub fn put_paged(
+    s: &mut [u8],
+    at: usize,
+    k: usize,
+    rows: u16,
+    n: LogNo,
+    a: PageNo,
+    b: PageNo,
+    c: u16,
+)
+    requires { ⌜ (k < 6) × (rows ≤ 15) × (1 ≤ n .0) × (at + out .fixed ≤ length (now s)) ⌝ }
+    ensures { λ _. ⌜ now (s .exit) ≡ put at (paged (kindAt k) rows (n .0) (a .0) (b .0) c) (now (s .entry)) ⌝ }
+{
+    put_header(s, at, k, kind::length_of(k, rows), n, earlier(n, 1));
+    field::put2(s, at + 12, a.0);
+    field::put2(s, at + 14, b.0);
     field::put2(s, at + 16, c);
     field::put2(s, at + 18, 0);
 }
 
-// The difference, 0 where there is none.
-fn less(n: u32, k: u32) -> u32
-    ensures { λ r. ⌜ r ≡ n - k ⌝ }
-{
-    if n < k {
-        return 0;
-    }
-    n - k
-}
-
 // An LI whose LO stands `back` records before and carried `rows` records.
-pub fn put_in(s: &mut [u8], at: usize, n: u32, org: u16, dest: u16, rows: u16, back: u32)
-    requires { ⌜ (1 ≤ n) × (at + 24 ≤ length (now s)) ⌝ }
-    ensures { λ _. ⌜ now (s .exit) ≡ put at (inBytes n org dest back rows) (now (s .entry)) ⌝ }
+pub fn put_in(s: &mut [u8], at: usize, n: LogNo, org: PageNo, dest: PageNo, rows: u16, back: u32)
+    requires { ⌜ (1 ≤ n .0) × (at + into .fixed ≤ length (now s)) ⌝ }
+    ensures { λ _. ⌜ now (s .exit) ≡ put at (inBytes (n .0) (org .0) (dest .0) back rows) (now (s .entry)) ⌝ }
 {
     put_paged(s, at, kind::LI, 0, n, org, dest, rows);
-    field::put4(s, at + 20, less(n, back));
+    field::put4(s, at + 20, earlier(n, back).0);
 }
 
 // The new key of an LM.
-fn new_key(new: u16, key: u32) -> u32
-    ensures { λ r. ⌜ r ≡ newKey new key ⌝ }
+fn new_key(new: PageNo, key: u32) -> u32
+    ensures { λ r. ⌜ r ≡ newKey (new .0) key ⌝ }
 {
-    if new == 0 {
+    if new.0 == 0 {
         return 0;
     }
     key
 }
 
 // An LM; a new page 0 removes, and the new key is then 0.
-pub fn put_modify(s: &mut [u8], at: usize, n: u32, base: u16, old: u16, new: u16, key: u32)
-    requires { ⌜ (1 ≤ n) × (at + 28 ≤ length (now s)) ⌝ }
-    ensures { λ _. ⌜ now (s .exit) ≡ put at (encode n (LM base old new key)) (now (s .entry)) ⌝ }
+pub fn put_modify(
+    s: &mut [u8],
+    at: usize,
+    n: LogNo,
+    base: PageNo,
+    old: PageNo,
+    new: PageNo,
+    key: u32,
+)
+    requires { ⌜ (1 ≤ n .0) × (at + modify .fixed ≤ length (now s)) ⌝ }
+    ensures { λ _. ⌜ now (s .exit) ≡ put at (encode (n .0) (LM (base .0) (old .0) (new .0) key)) (now (s .entry)) ⌝ }
 {
-    put_paged(s, at, kind::LM, 0, n, base, old, new);
+    put_paged(s, at, kind::LM, 0, n, base, old, new.0);
     field::put4(s, at + 20, key);
     field::put4(s, at + 24, new_key(new, key));
 }
 
 // An LE.
-pub fn put_end(s: &mut [u8], at: usize, n: u32, unit: u32)
-    requires { ⌜ (1 ≤ n) × (at + 16 ≤ length (now s)) ⌝ }
-    ensures { λ _. ⌜ now (s .exit) ≡ put at (encode n (LE unit)) (now (s .entry)) ⌝ }
+pub fn put_end(s: &mut [u8], at: usize, n: LogNo, unit: UnitNo)
+    requires { ⌜ (1 ≤ n .0) × (at + end .fixed ≤ length (now s)) ⌝ }
+    ensures { λ _. ⌜ now (s .exit) ≡ put at (encode (n .0) (LE (unit .0))) (now (s .entry)) ⌝ }
 {
-    put_unit(s, at, kind::LE, n, n - 1, unit);
+    put_unit(s, at, kind::LE, n, earlier(n, 1), unit);
 }
 
 // An LO of the records rs, 16 bytes each.
-pub fn put_out(s: &mut [u8], at: usize, n: u32, org: u16, dest: u16, k: u16, rs: &[u8])
-    requires { ⌜ (k ≤ 15) × (1 ≤ n) × (at + 20 + 16 * k ≤ length (now s)) ⌝ }
-    requires { ⌜ length (now rs) ≡ 16 * k ⌝ }
-    ensures { λ _. ⌜ now (s .exit) ≡ put at (encode n (LO org dest (rowsOf 16 k (now (rs .entry))))) (now (s .entry)) ⌝ }
+pub fn put_out(s: &mut [u8], at: usize, n: LogNo, org: PageNo, dest: PageNo, k: u16, rs: &[u8])
+    requires { ⌜ (k ≤ 15) × (1 ≤ n .0) × (at + out .fixed + out .each * k ≤ length (now s)) ⌝ }
+    requires { ⌜ length (now rs) ≡ out .each * k ⌝ }
+    ensures { λ _. ⌜ now (s .exit) ≡ put at (encode (n .0) (LO (org .0) (dest .0) (rowsOf 16 k (now (rs .entry))))) (now (s .entry)) ⌝ }
 {
     put_paged(s, at, kind::LO, k, n, org, dest, k);
-    field::copy(s, at + 20, rs);
+    field::copy(s, at + kind::size_of(kind::LO, 0), rs);
 }
 
 // The number where the test holds, else 0.
@@ -121,12 +143,12 @@ pub fn number_if(there: bool, v: u32) -> u32
 }
 
 // A check record at the log's front.
-pub fn put_check(s: &mut [u8], n: u32, unit: u32, there: bool, key: u32)
-    requires { ⌜ 24 ≤ length (now s) ⌝ }
-    ensures { λ _. ⌜ now (s .exit) ≡ put 0 (encodeCheck (checkOf n unit there key)) (now (s .entry)) ⌝ }
+pub fn put_check(s: &mut [u8], n: LogNo, unit: UnitNo, there: bool, key: u32)
+    requires { ⌜ check .fixed ≤ length (now s) ⌝ }
+    ensures { λ _. ⌜ now (s .exit) ≡ put 0 (encodeCheck (checkOf (n .0) (unit .0) there key)) (now (s .entry)) ⌝ }
 {
-    put_header(s, 0, kind::LC, kind::length_of(kind::LC, 0), n, 0);
-    field::put4(s, 12, unit);
+    put_header(s, 0, kind::LC, kind::length_of(kind::LC, 0), n, LogNo(0));
+    field::put4(s, 12, unit.0);
     field::put4(s, 16, number_if(there, 1));
     field::put4(s, 20, number_if(there, key));
 }
@@ -168,28 +190,28 @@ fn put_fields(s: &mut [u8], at: usize, ps: &[u16], n: usize)
 pub fn put_begin(
     s: &mut [u8],
     at: usize,
-    n: u32,
-    unit: u32,
+    n: LogNo,
+    unit: UnitNo,
     kind: u8,
     fill: u8,
     bases: &[u16],
     leaves: &[u16],
-    dest: u16,
+    dest: PageNo,
 )
-    requires { ⌜ (length (now bases) ≤ 2) × (length (now leaves) ≤ 8) × (at + 44 ≤ length (now s)) ⌝ }
-    ensures { λ _. ⌜ now (s .exit) ≡ put at (encode n (LB (beginOf unit kind fill (now (bases .entry)) (now (leaves .entry)) dest))) (now (s .entry)) ⌝ }
+    requires { ⌜ (length (now bases) ≤ 2) × (length (now leaves) ≤ 8) × (at + begin .fixed ≤ length (now s)) ⌝ }
+    ensures { λ _. ⌜ now (s .exit) ≡ put at (encode (n .0) (LB (beginOf (unit .0) kind fill (now (bases .entry)) (now (leaves .entry)) (dest .0)))) (now (s .entry)) ⌝ }
 {
-    put_unit(s, at, kind::LB, n, 0, unit);
+    put_unit(s, at, kind::LB, n, LogNo(0), unit);
     put_counts(
         s,
-        at + 16,
+        at + opening::TYPE_AT,
         kind,
         fill,
         bases.len() as u8,
         leaves.len() as u8,
     );
-    put_fields(s, at + 20, bases, 2);
-    put_fields(s, at + 24, leaves, 8);
-    field::put2(s, at + 40, dest);
-    field::put2(s, at + 42, 0);
+    put_fields(s, at + opening::BASES_AT, bases, 2);
+    put_fields(s, at + opening::LEAVES_AT, leaves, 8);
+    field::put2(s, at + opening::DEST_AT, dest.0);
+    field::put2(s, at + opening::ZERO_AT, 0);
 }

@@ -52,12 +52,12 @@ pub fn append(pg: &mut [u8], rs: &[u8], k: u16, n: LogNo)
 
 // Points entry i of a base page to another leaf page.
 pub fn redirect(pg: &mut [u8], i: usize, new: PageNo, n: LogNo)
-    requires { ⌜ (isBase (now pg) ≡ true) × (i < count (now pg)) × (new .0 < 64) ⌝ }
+    requires { ⌜ (isBase (now pg) ≡ true) × (i < count (now pg)) ⌝ }
     ensures { λ _. ⌜ now (pg .exit) ≡ madePointing (n .0) i (new .0) (now (pg .entry)) ⌝ }
 {
     let rows = view::count(pg);
     set_head(pg, b'b', rows, n);
-    field::put2(pg, 16 + (8 * i + 6), new.0 as u16);
+    field::put2(pg, 16 + (8 * i + 6), new.0);
 }
 
 // Removes entry i of a base page that has another.

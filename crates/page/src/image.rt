@@ -42,19 +42,18 @@ pub fn with_rows(mut image: [u8; 256], sz: usize, rs: &[u8], k: u16) -> [u8; 256
 
 // The bytes of an entry with this key and page.
 fn entry_of(key: u32, p: PageNo) -> [u8; 8]
-    requires { ⌜ p .0 < 64 ⌝ }
     ensures { λ r. ⌜ r ≡ entry key (p .0) ⌝ }
 {
     let mut e = [b'e', b'n', 0, 0, 0, 0, 0, 0];
     field::put4(&mut e, 2, key);
-    field::put2(&mut e, 6, p.0 as u16);
+    field::put2(&mut e, 6, p.0);
     e
 }
 
 // The image with one entry more, of this key and page, behind those it has.
 pub fn with_entry(image: [u8; 256], key: u32, p: PageNo) -> [u8; 256]
     requires { ⌜ image ≡ made (letter image) (number image) (spare image) (entries image) ⌝ }
-    requires { ⌜ (count image < 30) × (p .0 < 64) ⌝ }
+    requires { ⌜ count image < 30 ⌝ }
     ensures { λ r. ⌜ r ≡ made (letter image) (number image) (spare image) (entries image ++ (entry key (p .0) ∷ [])) ⌝ }
 {
     let e = entry_of(key, p);

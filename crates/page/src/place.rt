@@ -45,7 +45,7 @@ pub fn append_at(w: &mut [u8], p: PageNo, rs: &[u8], k: u16, n: LogNo)
 // Points entry i of page p, a base page, to another leaf page.
 pub fn redirect_at(w: &mut [u8], p: PageNo, i: usize, new: PageNo, n: LogNo)
     requires { ⌜ (length (now w) ≡ 16384) × (p .0 < 64) ⌝ }
-    requires { ⌜ (isBase (page (p .0) (now w)) ≡ true) × (i < count (page (p .0) (now w))) × (new .0 < 64) ⌝ }
+    requires { ⌜ (isBase (page (p .0) (now w)) ≡ true) × (i < count (page (p .0) (now w))) ⌝ }
     ensures { λ _. ⌜ now (w .exit) ≡ putPage (p .0) (madePointing (n .0) i (new .0) (page (p .0) (now (w .entry)))) (now (w .entry)) ⌝ }
 {
     let at = 256 * (p.0 as usize);

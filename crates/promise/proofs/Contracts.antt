@@ -71,7 +71,7 @@ module _ {M : Type 1} (𝓤 : URA M) (H : Heap 𝓤) (A : Atoms 𝓤) (mem : Mem
 
   pub flush-says : Says flush.ended (flush.clauses 𝓤 H A mem run)
       (λ κs a r e. replied (result r (now (a .1 .0)) (now (e .1 .1 .0)) (now (a .1 .1 .1 .0)) [])
-      ≡ Calls.flush (a .1 .1 .1 .1 .0 .0) (lentTo (a .0) (now (a .1 .0)) (now (a .1 .1 .0)) (now (a .1 .1 .1 .0)) []))
+      ≡ Calls.flush (a .1 .1 .1 .1 .0) (lentTo (a .0) (now (a .1 .0)) (now (a .1 .1 .0)) (now (a .1 .1 .1 .0)) []))
   flush-says κs a g r e = refl
 
   pub force-says : Says force.ended (force.clauses 𝓤 H A mem run)

@@ -53,15 +53,15 @@ shown-at : (s : State) → (shown s) .at ≡ s .at
 unfolding shown
 shown-at s = refl
 
-shown-number : (s : State) → (shown s) .number ≡ s .number
+shown-number : (s : State) → (shown s) .number .0 ≡ s .number
 unfolding shown
 shown-number s = refl
 
 pub at-is : (s : State) (v : Walk) → v ≡ shown s → v .at ≡ s .at
 at-is s v e = ap (λ (x : Walk). x .at) e ∙ shown-at s
 
-pub number-is : (s : State) (v : Walk) → v ≡ shown s → v .number ≡ s .number
-number-is s v e = ap (λ (x : Walk). x .number) e ∙ shown-number s
+pub number-is : (s : State) (v : Walk) → v ≡ shown s → v .number .0 ≡ s .number
+number-is s v e = ap (λ (x : Walk). x .number .0) e ∙ shown-number s
 
 -- ---- the loop
 
@@ -77,7 +77,7 @@ pub record Going (w₀ l₀ : List ℕ) (v₀ : Walk) (w l : List ℕ) (v : Walk
   pub same : finishing w₀ l₀ ≡ finishing w l
   pub front : take (v₀ .at) l ≡ take (v₀ .at) l₀
   pub higher : v₀ .at ≤ v .at
-  pub later : v₀ .number ≤ v .number
+  pub later : v₀ .number .0 ≤ v .number .0
 
 pub going-start : (w l : List ℕ) (v : Walk) → Bytes w → Bytes l → Found w l v → Going w l v w l v
 going-start w l v bw bl f =
@@ -235,7 +235,7 @@ module _ (w₀ l₀ : List ℕ) (v₀ : Walk) (w l : List ℕ) (v : Walk) (p : G
               at-is (atEnd (grown (p .log) (grew .added))) v′ turns ∙ ap (λ (x : State). x .at) (sym (grew .state)) ∙ grew .higher
               ∙ ap (λ (k : ℕ). k + size (grew .added)) (sym (at-is (atEnd (p .log)) v (p .shows)))
 
-          number-grew : v′ .number ≡ v .number + 1
+          number-grew : v′ .number .0 ≡ v .number .0 + 1
           number-grew =
               number-is (atEnd (grown (p .log) (grew .added))) v′ turns ∙ ap (λ (x : State). x .number) (sym (grew .state)) ∙ grew .later
               ∙ ap (λ (k : ℕ). k + 1) (sym (number-is (atEnd (p .log)) v (p .shows)))

@@ -154,7 +154,7 @@ module _ (w l : List ℕ) (v : Walk) (k : Found w l v) where
             refuses 8 a c u g (completing-is ∙ ap (recovered d (atEnd (found .log))) (x .is) ∙ unwell-is d (atEnd (found .log)) (x .state) w′ l′ t) s
 
       pub complete-accepts : (a c u g : ℕ) → reply ≡ 0 → wellFormed (pages w′) ≡ true
-          → (a ≡ 0) × (c ≡ v′ .number - v .number) × (u ≡ v′ .at) × (g ≡ v .at) → left a (c ∷ []) (lent u g w′ st l′ []) ≡ completing d w
+          → (a ≡ 0) × (c ≡ v′ .number .0 - v .number .0) × (u ≡ v′ .at) × (g ≡ v .at) → left a (c ∷ []) (lent u g w′ st l′ []) ≡ completing d w
       complete-accepts a c u g n t s =
           let x : Ended (finishing w l) v v′ w′ l′ = f .done n in
           rw (s .0, s .1, s .2, s .3)
@@ -241,7 +241,7 @@ module _ (used forced : ℕ) (work store log : List ℕ) (a : length work ≡ 16
         recover-form! w v c u f l i =
             blanks used forced work store log v c u f 3 w (recover-unformed d′ sized (read .log) (read .read) (sym ye ∙ not-true y i)) l
 
-        module _ (i : not y ≡ false) (z : Bool) (ze : z ≡ noneNewer (x .walk .number) (pages store)) where
+        module _ (i : not y ≡ false) (z : Bool) (ze : z ≡ noneNewer (x .walk .number .0) (pages store)) where
           formed : allFormed 0 (pages store) ≡ true
           formed = sym ye ∙ not-false y i
 
@@ -261,7 +261,7 @@ pub record Tested (work store log : List ℕ) (x : Scan) : Type 0 where
   pub scans : x ≡ scanned 0 log
   pub ok : not (x .walk .ok) ≡ false
   pub formed-all : allFormed 0 (pages store) ≡ true
-  pub newer : noneNewer (x .walk .number) (pages store) ≡ true
+  pub newer : noneNewer (x .walk .number .0) (pages store) ≡ true
 
 module _ (used forced : ℕ) (work store log : List ℕ) (x : Scan) (t : Tested work store log x) (w₁ : List ℕ) (copied : w₁ ≡ put 0 store work) (r : Bool)
     (w₂ : List ℕ) (q : Repeated log w₁ r w₂) where

@@ -29,7 +29,7 @@ pub record Ended (o : Went) (found v : Walk) (w′ l′ : List ℕ) : Type 0 whe
   pub shows : v ≡ shown state
   pub form : InForm w′
   pub inside : v .at ≤ logLength
-  pub later : found .number ≤ v .number
+  pub later : found .number .0 ≤ v .number .0
 
 -- what it leaves: 0 and the end, or the reply that stopped it; the log l up to the end that was found stays
 pub record Finishes (o : Went) (l : List ℕ) (found : Walk) (reply : ℕ) (v : Walk) (w′ l′ : List ℕ) : Type 0 where

@@ -8,6 +8,7 @@ ghost use Rattle.field.specs.Bytes.{put, zeroes};
 ghost use Rattle.page.specs.Pages.{pages};
 ghost use Rattle.store.specs.Calls.{lent, left, noneNewer, recover};
 ghost use Rattle.recovering.specs.Finishes.{Found, finishing, Finishes, completing};
+use field::LogNo;
 use log::scan::Walk;
 use store::Numbers;
 
@@ -50,13 +51,13 @@ fn blanked(n: Numbers, work: &mut [u8], reply: u8) -> RecoverAnswer
 }
 
 // Test 4: no page has a number above the log's last.
-fn none_newer(store: &[u8], last: u32) -> bool
+fn none_newer(store: &[u8], last: LogNo) -> bool
     requires { ⌜ length (now store) ≡ 16384 ⌝ }
-    ensures { λ r. ⌜ r ≡ noneNewer last (pages (now (store .entry))) ⌝ }
+    ensures { λ r. ⌜ r ≡ noneNewer (last .0) (pages (now (store .entry))) ⌝ }
 {
     let mut p = 0;
     while p < 64 {
-        if last < field::get4(store, 256 * p + 4) {
+        if last.0 < field::get4(store, 256 * p + 4) {
             return false;
         }
         p += 1;
@@ -91,13 +92,13 @@ fn taken_back(n: Numbers, work: &mut [u8], log: &mut [u8], end: usize, reply: u8
 
 // Accepted: used is the log's end after finishing, forced its end as found, and the count is that of the records between.
 fn accepted(found: Walk, end: Walk) -> RecoverAnswer
-    requires { ⌜ (found .at ≤ 8192) × (end .at ≤ 8192) × (found .number ≤ end .number) ⌝ }
-    ensures { λ r. ⌜ (r .recovered .reply ≡ 0) × (r .recovered .count ≡ end .number - found .number) × (r .numbers .used ≡ end .at) × (r .numbers .forced ≡ found .at) ⌝ }
+    requires { ⌜ (found .at ≤ 8192) × (end .at ≤ 8192) × (found .number .0 ≤ end .number .0) ⌝ }
+    ensures { λ r. ⌜ (r .recovered .reply ≡ 0) × (r .recovered .count ≡ end .number .0 - found .number .0) × (r .numbers .used ≡ end .at) × (r .numbers .forced ≡ found .at) ⌝ }
 {
     RecoverAnswer {
         recovered: Recovered {
             reply: 0,
-            count: end.number - found.number,
+            count: end.number.0 - found.number.0,
         },
         numbers: Numbers {
             used: end.at as u32,

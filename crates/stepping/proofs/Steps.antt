@@ -13,6 +13,8 @@ use Rattle.field.proofs.Test.{need-true, need-false, given-some, given-none, bi
 use Rattle.page.specs.Page.{formed}
 use Rattle.page.specs.Pages.{page}
 use Rattle.page.proofs.Pages.{lent-page}
+use Rattle.field.specs.declared.PageNo.{PageNo}
+use Rattle.field.specs.declared.UnitNo.{UnitNo}
 use Rattle.log.specs.Record.{Rec, encode}
 use Rattle.log.specs.Plan.{Step, takeOut, bringIn, point, close}
 use Rattle.log.specs.Log.{Open, State, after, Log, readLog, atEnd}
@@ -140,35 +142,35 @@ target-small (close unit) k p e = absurd (some-none p e)
 
 module _ (work : List ℕ) (x : Planned) where
   module _ (r : Bool) where
-    pub target-out! : {org dest : ℕ} → x ≡ Out org dest → r ≡ formed org (page org work) → r ≡ formedAt (targetOf (stepOf x)) work
+    pub target-out! : {org dest : PageNo} → x ≡ Out org dest → r ≡ formed (org .0) (page (org .0) work) → r ≡ formedAt (targetOf (stepOf x)) work
     unfolding formedAt targetOf stepOf
     target-out! q e = rw q e
 
-    pub target-in! : {org dest back : ℕ} → x ≡ In org dest back → r ≡ formed dest (page dest work) → r ≡ formedAt (targetOf (stepOf x)) work
+    pub target-in! : {org dest : PageNo} {back : ℕ} → x ≡ In org dest back → r ≡ formed (dest .0) (page (dest .0) work) → r ≡ formedAt (targetOf (stepOf x)) work
     unfolding formedAt targetOf stepOf
     target-in! q e = rw q e
 
-    pub target-point! : {base old new : ℕ} {other : Bool} → x ≡ Point base old new other → r ≡ formed base (page base work) → r ≡ formedAt (targetOf (stepOf x)) work
+    pub target-point! : {base old new : PageNo} {other : Bool} → x ≡ Point base old new other → r ≡ formed (base .0) (page (base .0) work) → r ≡ formedAt (targetOf (stepOf x)) work
     unfolding formedAt targetOf stepOf
     target-point! q e = rw q e
 
-  pub target-close! : {unit : ℕ} → x ≡ Close unit → true ≡ formedAt (targetOf (stepOf x)) work
+  pub target-close! : {unit : UnitNo} → x ≡ Close unit → true ≡ formedAt (targetOf (stepOf x)) work
   unfolding formedAt targetOf stepOf
   target-close! q = rw q
 
   -- the page of each
   module _ (small : (p : ℕ) → targetOf (stepOf x) ≡ some p → p < 64) where
-    pub out-small : {org dest : ℕ} → x ≡ Out org dest → org < 64
+    pub out-small : {org dest : PageNo} → x ≡ Out org dest → org .0 < 64
     unfolding targetOf stepOf
-    out-small {org} q = small org (rw q)
+    out-small {org} q = small (org .0) (rw q)
 
-    pub in-small : {org dest back : ℕ} → x ≡ In org dest back → dest < 64
+    pub in-small : {org dest : PageNo} {back : ℕ} → x ≡ In org dest back → dest .0 < 64
     unfolding targetOf stepOf
-    in-small {dest = dest} q = small dest (rw q)
+    in-small {dest = dest} q = small (dest .0) (rw q)
 
-    pub base-small : {base old new : ℕ} {other : Bool} → x ≡ Point base old new other → base < 64
+    pub base-small : {base old new : PageNo} {other : Bool} → x ≡ Point base old new other → base .0 < 64
     unfolding targetOf stepOf
-    base-small {base} q = small base (rw q)
+    base-small {base} q = small (base .0) (rw q)
 
 -- ---- step's answers
 

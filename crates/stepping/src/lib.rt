@@ -9,6 +9,7 @@ ghost use Rattle.page.specs.Pages.{page};
 ghost use Rattle.log.specs.Steps.{stepOf};
 ghost use Rattle.unit.specs.Next.{targetOf};
 ghost use Rattle.store.specs.Calls.{lent, left, formedAt, step};
+use field::PageNo;
 use log::steps;
 use log::steps::Planned;
 use page::form;
@@ -17,12 +18,12 @@ use store::Numbers;
 use store::known;
 
 // Whether page p is in form.
-fn formed_at(work: &[u8], p: usize) -> bool
-    requires { ⌜ (length (now work) ≡ 16384) × (p < 64) ⌝ }
-    ensures { λ r. ⌜ r ≡ formed p (page p (now (work .entry))) ⌝ }
+fn formed_at(work: &[u8], p: PageNo) -> bool
+    requires { ⌜ (length (now work) ≡ 16384) × (p .0 < 64) ⌝ }
+    ensures { λ r. ⌜ r ≡ formed (p .0) (page (p .0) (now (work .entry))) ⌝ }
 {
-    let at = 256 * p;
-    form::formed(p, &work[at..at + 256])
+    let at = 256 * (p.0 as usize);
+    form::formed(p.0 as usize, &work[at..at + 256])
 }
 
 // Test 3: the page that a step changes, if it changes one, is in form.
@@ -31,18 +32,18 @@ fn target_formed(work: &[u8], x: Planned) -> bool
     ensures { λ r. ⌜ r ≡ formedAt (targetOf (stepOf x)) (now (work .entry)) ⌝ }
 {
     match x {
-        Planned::Out { org, dest: _ } => formed_at(work, org as usize),
+        Planned::Out { org, dest: _ } => formed_at(work, org),
         Planned::In {
             org: _,
             dest,
             back: _,
-        } => formed_at(work, dest as usize),
+        } => formed_at(work, dest),
         Planned::Point {
             base,
             old: _,
             new: _,
             other: _,
-        } => formed_at(work, base as usize),
+        } => formed_at(work, base),
         Planned::Close { unit: _ } => true,
     }
 }

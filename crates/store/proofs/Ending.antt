@@ -31,13 +31,13 @@ module _ (w : Walk) (s : State) (e : w ≡ shown s) where
   unfolding shown
   shown-at = ap (λ (w : Walk). w .at) e
 
-  pub shown-number : w .number ≡ s .number
+  pub shown-number : w .number .0 ≡ s .number
   unfolding shown
-  shown-number = ap (λ (w : Walk). w .number) e
+  shown-number = ap (λ (w : Walk). w .number .0) e
 
-  pub shown-unit : w .unit ≡ s .unit
+  pub shown-unit : w .unit .0 ≡ s .unit
   unfolding shown
-  shown-unit = ap (λ (w : Walk). w .unit) e
+  shown-unit = ap (λ (w : Walk). w .unit .0) e
 
   shown-opened : w .opened ≡ there (s .opened)
   unfolding shown
@@ -55,10 +55,10 @@ module _ (d : Lent) (t : Scan) (k : Knows d t) where
   pub end-at : t .walk .at ≡ atEnd (k .log) .at
   end-at = shown-at (t .walk) (atEnd (k .log)) (k .walk)
 
-  pub end-number : t .walk .number ≡ atEnd (k .log) .number
+  pub end-number : t .walk .number .0 ≡ atEnd (k .log) .number
   end-number = shown-number (t .walk) (atEnd (k .log)) (k .walk)
 
-  pub end-unit : t .walk .unit ≡ atEnd (k .log) .unit
+  pub end-unit : t .walk .unit .0 ≡ atEnd (k .log) .unit
   end-unit = shown-unit (t .walk) (atEnd (k .log)) (k .walk)
 
   pub end-opened : t .walk .opened ≡ there (atEnd (k .log) .opened)

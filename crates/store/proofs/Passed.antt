@@ -25,7 +25,7 @@ pub record Knows (d : Lent) (s : Scan) : Type 0 where
   pub log : Log
   pub is : known d ≡ some log
   pub walk : s .walk ≡ shown (atEnd log)
-  pub forced : lastForced (d .forced) log ≡ some (s .forced)
+  pub forced : lastForced (d .forced) log ≡ some (s .forced .0)
 
 both-no : (b : Bool) → both b false ≡ false
 unfolding both

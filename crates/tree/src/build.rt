@@ -72,18 +72,18 @@ fn entries_image(
     f: usize,
     step: usize,
     i: usize,
-    p: u32,
+    p: PageNo,
     n: usize,
 ) -> [u8; 256]
-    requires { ⌜ (1 ≤ f) × (step ≤ 30) × (n ≤ 30) × (p + n ≤ 64) × Leaves (length (now records)) f step i n ⌝ }
-    ensures { λ r. ⌜ r ≡ made sign 0 (zeroes 8) (entryRun f (now (records .entry)) step i p n) ⌝ }
+    requires { ⌜ (1 ≤ f) × (step ≤ 30) × (n ≤ 30) × (p .0 + n ≤ 64) × Leaves (length (now records)) f step i n ⌝ }
+    ensures { λ r. ⌜ r ≡ made sign 0 (zeroes 8) (entryRun f (now (records .entry)) step i (p .0) n) ⌝ }
 {
     let mut image = image::blank(sign);
     let mut at = i;
     let mut k: usize = 0;
     while k < n {
         let key = leaf_key(records, f, at);
-        let more = image::with_entry(image, key, PageNo(p + k as u32));
+        let more = image::with_entry(image, key, PageNo(p.0 + k as u16));
         image = more;
         at += step;
         k += 1;
@@ -113,7 +113,7 @@ fn base_image(records: &[u8], f: usize, g: usize, leaves: usize, j: usize) -> [u
         return image::blank(b'e');
     }
     let n = least(g, leaves - first);
-    entries_image(b'b', records, f, 1, first, 8 + first as u32, n)
+    entries_image(b'b', records, f, 1, first, PageNo(8 + first as u16), n)
 }
 
 // Page p of the layout.
@@ -124,7 +124,7 @@ fn image_at(records: &[u8], f: usize, g: usize, p: usize) -> [u8; 256]
     let leaves = pieces(records.len() / 16, f);
     if p == 0 {
         let bases = pieces(leaves, g);
-        return entries_image(b'r', records, f, g, 0, 1, bases);
+        return entries_image(b'r', records, f, g, 0, PageNo(1), bases);
     }
     if p <= 7 {
         return base_image(records, f, g, leaves, p - 1);
@@ -140,7 +140,7 @@ pub fn build_pages(w: &mut [u8], f: u32, g: u32, records: &[u8])
     requires { ⌜ (length (now w) ≡ 16384) × Buildable f g (length (now records)) ⌝ }
     ensures { λ _. ⌜ now (w .exit) ≡ layout f g (rowsOf 16 (length (now (records .entry)) / 16) (now (records .entry))) ⌝ }
 {
-    let mut p: u32 = 0;
+    let mut p: u16 = 0;
     while p < 64 {
         let image = image_at(records, f as usize, g as usize, p as usize);
         image::set_page(w, PageNo(p), image);

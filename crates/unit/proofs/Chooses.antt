@@ -22,7 +22,7 @@ use Rattle.log.specs.Record.{Begin}
 use Rattle.tree.specs.Tree.{Leaf, under, pointers, leafAt, leavesUnder, leavesBelow}
 use Rattle.tree.proofs.Turn.{none-left, each-behind, under-page}
 use Rattle.unit.specs.Choice.{exceeds, joining, group, lowestEmpty, compactOf, larger, chooseCompact}
-use Rattle.unit.specs.Chosen.{chosen, Picks, leafOf, toPages, joins, topOf}
+use Rattle.unit.specs.Chosen.{pageNo, chosen, Picks, leafOf, toPages, joins, topOf}
 use Rattle.unit.specs.declared.choice.Choice.{Choice}
 use Rattle.unit.proofs.Groups.{length-toPages}
 use Rattle.unit.proofs.Ordered.{picks-as}
@@ -30,7 +30,7 @@ use Rattle.unit.proofs.Ordered.{picks-as}
 -- ---- the unit by value
 
 pub compact-picks : (fill b k dest c : ℕ) (pgs leaves : List ℕ) → leaves ≡ pgs ++ zeroes (8 - k) → length pgs ≡ k → k ≤ 8
-    → Picks (record { found = true; kind = 1; fill = fill; «base_count» = 1; «leaf_count» = k; bases = b ∷ 0 ∷ []; leaves = leaves; dest = dest })
+    → Picks (record { found = true; kind = 1; fill = fill; «base_count» = 1; «leaf_count» = k; bases = b ∷ 0 ∷ []; leaves = leaves; dest = pageNo dest })
     (λ u. some (compactOf u fill (leafOf b c) pgs dest))
 unfolding chosen when compactOf zeroes
 compact-picks fill b k dest c pgs leaves e l small = record {

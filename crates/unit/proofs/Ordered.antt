@@ -22,8 +22,9 @@ use Rattle.tree.proofs.Tally.{pointers-append, once-at}
 use Rattle.tree.proofs.Sound.{root-entries, root-formed}
 use Rattle.log.specs.Record.{Begin}
 use Rattle.unit.specs.Choice.{place, moveOf, swapOf, putInOrder, baseOf, chooseOrder, orderUnit}
-use Rattle.unit.specs.Chosen.{Picks, leafOf, stray, inOrder}
+use Rattle.unit.specs.Chosen.{pageNo, Picks, leafOf, stray, inOrder}
 use Rattle.unit.specs.declared.choice.Choice.{Choice}
+use Rattle.field.specs.declared.PageNo.{PageNo}
 use Rattle.unit.specs.declared.order.Stray.{Stray}
 use Rattle.unit.specs.declared.order.Stray.the-variants.{Nowhere, At}
 
@@ -109,24 +110,24 @@ module _ (w : List ℕ) (f : InForm w) where
 
 -- ---- the first misplaced leaf stands above its place
 
-at-parts : (want b p want′ b′ p′ : ℕ) → At want b p ≡ At want′ b′ p′ → (want ≡ want′) × (p ≡ p′)
+at-parts : (want b p want′ b′ p′ : PageNo) → At want b p ≡ At want′ b′ p′ → (want ≡ want′) × (p ≡ p′)
 at-parts want b p want′ b′ p′ e = (cc, cc)
 
-nowhere-at : (want b p : ℕ) → Nowhere ≡ At want b p → ⊥
+nowhere-at : (want b p : PageNo) → Nowhere ≡ At want b p → ⊥
 nowhere-at want b p e = let z : _≡_ {A = ℕ} 0 1 = cc in omega arith
 
 one-at : (a b : ℕ) → a ≡ b → _≡_ {A = ℕ} (pick (eqb a b) 1 0) 1
 unfolding pick
 one-at a b e = rw (eq-eqb a b e)
 
-stray-above : (i : ℕ) (ls : List Leaf) (want b p : ℕ) → ((q : ℕ) → q < place i → held q ls ≡ 0) → ((q : ℕ) → held q ls ≤ 1) → stray i ls ≡ At want b p
-    → (want < p) × (1 ≤ held p ls)
+stray-above : (i : ℕ) (ls : List Leaf) (want b p : PageNo) → ((q : ℕ) → q < place i → held q ls ≡ 0) → ((q : ℕ) → held q ls ≤ 1) → stray i ls ≡ At want b p
+    → (want .0 < p .0) × (1 ≤ held (p .0) ls)
 unfolding stray held
 stray-above i [] want b p clear twice e = absurd (nowhere-at want b p e)
 stray-above i (l ∷ ls) want b p clear twice e =
     decide (eqb (l .at) (place i))
     (λ t. let z : l .at ≡ place i = eqb-true (l .at) (place i) t in
-    let e1 : stray (i + 1) ls ≡ At want b p = sym (pick-true (eqb (l .at) (place i)) (stray (i + 1) ls) (At (place i) (l .base) (l .at)) t) ∙ e in
+    let e1 : stray (i + 1) ls ≡ At want b p = sym (pick-true (eqb (l .at) (place i)) (stray (i + 1) ls) (At (pageNo (place i)) (pageNo (l .base)) (pageNo (l .at))) t) ∙ e in
     let n : place (i + 1) ≡ place i + 1 = unfold place in omega arith in
     let clear1 : (q : ℕ) → q < place (i + 1) → held q ls ≡ 0 =
     λ q h. split q (place i)
@@ -136,24 +137,25 @@ stray-above i (l ∷ ls) want b p clear twice e =
     let r = stray-above (i + 1) ls want b p clear1 (λ q. omega (arith, twice q)) e1 in
     (r .0, omega (arith, r .1)))
     (λ t. let ne : l .at ≡ place i → ⊥ = λ z. false-true (sym t ∙ eq-eqb (l .at) (place i) z) in
-    let e1 : At (place i) (l .base) (l .at) ≡ At want b p = sym (pick-false (eqb (l .at) (place i)) (stray (i + 1) ls) (At (place i) (l .base) (l .at)) t) ∙ e in
-    let x = at-parts (place i) (l .base) (l .at) want b p e1 in
-    let y : l .at ≡ p = x .1 in
-    split p (place i)
-    (λ a. absurd (let c : ⊥ = omega (arith, clear p a, one-at (l .at) p y) in c))
-    (λ a. (split (place i) p (λ k. omega (arith, x .0)) (λ k. absurd (ne (omega arith))), omega (arith, one-at (l .at) p y))))
+    let e1 : At (pageNo (place i)) (pageNo (l .base)) (pageNo (l .at)) ≡ At want b p = sym (pick-false (eqb (l .at) (place i)) (stray (i + 1) ls) (At (pageNo (place i)) (pageNo (l .base)) (pageNo (l .at))) t) ∙ e in
+    let x = at-parts (pageNo (place i)) (pageNo (l .base)) (pageNo (l .at)) want b p e1 in
+    let y : l .at ≡ p .0 = ap (λ (z : PageNo). z .0) (x .1) in
+    let v : place i ≡ want .0 = ap (λ (z : PageNo). z .0) (x .0) in
+    split (p .0) (place i)
+    (λ a. absurd (let c : ⊥ = omega (arith, clear (p .0) a, one-at (l .at) (p .0) y) in c))
+    (λ a. (split (place i) (p .0) (λ k. omega (arith, v)) (λ k. absurd (ne (omega arith))), omega (arith, one-at (l .at) (p .0) y))))
   where
     false-true : false ≡ true → ⊥
     false-true q = let z : _≡_ {A = ℕ} 0 1 = cc in omega arith
 
-pub want-small : (w : List ℕ) (s : Stray) (want b p : ℕ) → s ≡ At want b p → s ≡ stray 0 (leavesOf (pages w)) → InForm w → wellFormed (pages w) ≡ true → want < 64
+pub want-small : (w : List ℕ) (s : Stray) (want b p : PageNo) → s ≡ At want b p → s ≡ stray 0 (leavesOf (pages w)) → InForm w → wellFormed (pages w) ≡ true → want .0 < 64
 want-small w s want b p h k f well =
     let e : stray 0 (leavesOf (pages w)) ≡ At want b p = sym k ∙ h in
     let low : (q : ℕ) → q < place 0 → held q (leavesOf (pages w)) ≡ 0 = λ q h. held-none w f q (λ k lo hi z. unfold place in omega arith) in
     let r = stray-above 0 (leavesOf (pages w)) want b p low (held-once w f well) e in
-    split p 64
+    split (p .0) 64
     (λ a. omega (arith, r .0))
-    (λ a. absurd (let c : ⊥ = omega (arith, r .1, held-none w f p (λ k lo hi z. omega arith)) in c))
+    (λ a. absurd (let c : ⊥ = omega (arith, r .1, held-none w f (p .0) (λ k lo hi z. omega arith)) in c))
 
 -- ---- the unit
 
@@ -162,7 +164,7 @@ unfolding chooseOrder stray
 choose-stray u ps ls i [] = unfold inOrder in refl
 choose-stray u ps ls i (l ∷ rest) = rw (choose-stray u ps ls (i + 1) rest) (out (eqb (l .at) (place i)))
   where
-    out : (t : Bool) → pick t (inOrder u ps ls (stray (i + 1) rest)) (some (putInOrder u (place i) ps ls l)) ≡ inOrder u ps ls (pick t (stray (i + 1) rest) (At (place i) (l .base) (l .at)))
+    out : (t : Bool) → pick t (inOrder u ps ls (stray (i + 1) rest)) (some (putInOrder u (place i) ps ls l)) ≡ inOrder u ps ls (pick t (stray (i + 1) rest) (At (pageNo (place i)) (pageNo (l .base)) (pageNo (l .at))))
     out true = unfold pick in refl
     out false = unfold pick inOrder putInOrder moveOf swapOf in refl
 
@@ -184,12 +186,12 @@ module _ (w : List ℕ) (s : Stray) (e : s ≡ stray 0 (leavesOf (pages w))) (r 
   pub order-none! : s ≡ Nowhere → Picks r (λ u. none) → Picks r (λ u. orderUnit u (pages w))
   order-none! h p = picks-as r _ _ p (λ u. sym (order-stray u (pages w) ∙ rw (← e, h) (unfold inOrder in refl)))
 
-  module _ (want b q : ℕ) (h : s ≡ At want b q) (z : Bool) (k : z ≡ isEmpty (page want w)) (small : want < 64) where
-    right : (u : ℕ) → orderUnit u (pages w) ≡ some (pick z (moveOf u (leafOf b q) want) (swapOf u (leafOf b q) want (baseOf want (leavesOf (pages w)))))
-    right u = order-stray u (pages w) ∙ rw (← e, h) (unfold inOrder putInOrder in rw (getD-pages want w small, k))
+  module _ (want b q : PageNo) (h : s ≡ At want b q) (z : Bool) (k : z ≡ isEmpty (page (want .0) w)) (small : want .0 < 64) where
+    right : (u : ℕ) → orderUnit u (pages w) ≡ some (pick z (moveOf u (leafOf (b .0) (q .0)) (want .0)) (swapOf u (leafOf (b .0) (q .0)) (want .0) (baseOf (want .0) (leavesOf (pages w)))))
+    right u = order-stray u (pages w) ∙ rw (← e, h) (unfold inOrder putInOrder in rw (getD-pages (want .0) w small, k))
 
-    pub order-move! : z ≡ true → Picks r (λ u. some (moveOf u (leafOf b q) want)) → Picks r (λ u. orderUnit u (pages w))
+    pub order-move! : z ≡ true → Picks r (λ u. some (moveOf u (leafOf (b .0) (q .0)) (want .0))) → Picks r (λ u. orderUnit u (pages w))
     order-move! t p = picks-as r _ _ p (λ u. sym (right u ∙ ap some (pick-true z _ _ t)))
 
-    pub order-swap! : (other : ℕ) → other ≡ baseOf want (leavesOf (pages w)) → z ≡ false → Picks r (λ u. some (swapOf u (leafOf b q) want other)) → Picks r (λ u. orderUnit u (pages w))
+    pub order-swap! : (other : ℕ) → other ≡ baseOf (want .0) (leavesOf (pages w)) → z ≡ false → Picks r (λ u. some (swapOf u (leafOf (b .0) (q .0)) (want .0) other)) → Picks r (λ u. orderUnit u (pages w))
     order-swap! other o t p = picks-as r _ _ p (λ u. sym (right u ∙ ap some (pick-false z _ _ t) ∙ rw o))

@@ -22,6 +22,8 @@ use Rattle.log.specs.declared.steps.Planned.{Planned}
 use Rattle.log.specs.declared.steps.Planned.the-variants.{Out, In, Point, Close}
 use Rattle.unit.specs.Next.{target, changedAt, repeat}
 use Rattle.unit.specs.Made.{Did}
+use Rattle.field.specs.declared.PageNo.{PageNo}
+use Rattle.field.specs.declared.UnitNo.{UnitNo}
 use Rattle.unit.specs.Again.{OutReads, InReads, PointReads, Reads}
 use Rattle.unit.proofs.Applied.{did-some}
 
@@ -78,33 +80,33 @@ unfolding repeat target changedAt
 end-repeats n unit w = refl
 
 module _ (l : List ℕ) (w : Walk) (p : Planned) (h : Reads l w (stepOf p)) where
-  pub out-reads : (org dest : ℕ) → p ≡ Out org dest → OutReads l w org
+  pub out-reads : (org dest : PageNo) → p ≡ Out org dest → OutReads l w (org .0)
   unfolding stepOf
   out-reads org dest e = subst (λ (x : Planned). Reads l w (stepOf x)) e h
 
-  pub in-reads : (org dest back : ℕ) → p ≡ In org dest back → InReads l w dest back
+  pub in-reads : (org dest : PageNo) (back : ℕ) → p ≡ In org dest back → InReads l w (dest .0) back
   unfolding stepOf
   in-reads org dest back e = subst (λ (x : Planned). Reads l w (stepOf x)) e h
 
-  pub point-reads : (base old new : ℕ) (other : Bool) → p ≡ Point base old new other → PointReads l w base new
+  pub point-reads : (base old new : PageNo) (other : Bool) → p ≡ Point base old new other → PointReads l w (base .0)
   unfolding stepOf
   point-reads base old new other e = subst (λ (x : Planned). Reads l w (stepOf x)) e h
 
 module _ (n : ℕ) (l : List ℕ) (w : Walk) (p : Planned) (v v′ : List ℕ) (r : Bool) where
-  pub step-out! : (org dest : ℕ) → p ≡ Out org dest → ((to : ℕ) → Did (repeat n (recordAt l w (takeOut org to)) v) v r v′) → Did (repeat n (recordAt l w (stepOf p)) v) v r v′
+  pub step-out! : (org dest : PageNo) → p ≡ Out org dest → ((to : ℕ) → Did (repeat n (recordAt l w (takeOut (org .0) to)) v) v r v′) → Did (repeat n (recordAt l w (stepOf p)) v) v r v′
   unfolding stepOf
-  step-out! org dest e d = rw e (d dest)
+  step-out! org dest e d = rw e (d (dest .0))
 
-  pub step-in! : (org dest back : ℕ) → p ≡ In org dest back → ((from : ℕ) → Did (repeat n (recordAt l w (bringIn from dest back)) v) v r v′)
+  pub step-in! : (org dest : PageNo) (back : ℕ) → p ≡ In org dest back → ((from : ℕ) → Did (repeat n (recordAt l w (bringIn from (dest .0) back)) v) v r v′)
       → Did (repeat n (recordAt l w (stepOf p)) v) v r v′
   unfolding stepOf
-  step-in! org dest back e d = rw e (d org)
+  step-in! org dest back e d = rw e (d (org .0))
 
-  pub step-point! : (base old new : ℕ) (other : Bool) → p ≡ Point base old new other → ((o : Bool) → Did (repeat n (recordAt l w (point base old new o)) v) v r v′)
+  pub step-point! : (base old new : PageNo) (other : Bool) → p ≡ Point base old new other → ((o : Bool) → Did (repeat n (recordAt l w (point (base .0) (old .0) (new .0) o)) v) v r v′)
       → Did (repeat n (recordAt l w (stepOf p)) v) v r v′
   unfolding stepOf
   step-point! base old new other e d = rw e (d other)
 
-pub step-close! : (n : ℕ) (l : List ℕ) (w : Walk) (p : Planned) (v : List ℕ) (unit : ℕ) → p ≡ Close unit → Did (repeat n (recordAt l w (stepOf p)) v) v true v
+pub step-close! : (n : ℕ) (l : List ℕ) (w : Walk) (p : Planned) (v : List ℕ) (unit : UnitNo) → p ≡ Close unit → Did (repeat n (recordAt l w (stepOf p)) v) v true v
 unfolding stepOf recordAt
-step-close! n l w p v unit e = rw e (did-some _ v v v (end-repeats n unit v) refl)
+step-close! n l w p v unit e = rw e (did-some _ v v v (end-repeats n (unit .0) v) refl)

@@ -3,7 +3,6 @@
 use Prim.Native.Nat.{ℕ, zero, suc, _+_, _-_, _≤_, _<_}
 use native.Mathlib.Omega.{arith}
 use mathlib.Core.Path.{_≡_, refl, sym, ap, _∙_, subst}
-use mathlib.Core.Logic.{⊎-elim}
 use mathlib.Core.Bool.{Bool, true, false, not, false≢true}
 use mathlib.Core.List.{List, [], _∷_}
 use mathlib.Core.Option.{Option, some, none}
@@ -28,20 +27,20 @@ use Rattle.log.proofs.Toward.{Toward, toward-first, toward-comes, toward-over, 
 use Rattle.unit.specs.Next.{target, changedAt, repeat, repeatAll}
 use Rattle.unit.specs.Made.{Did}
 use Rattle.unit.specs.Again.{Reads, nextStep, Ahead, redone, repeated, Repeated}
-use Rattle.unit.proofs.Places.{Leafy, StepKeeps, Keeping, no-step, one-more, plan-keeps}
+use Rattle.unit.proofs.Places.{StepKeeps, Keeping, no-step, one-more, plan-keeps}
 use Rattle.unit.proofs.Applied.{did-some}
 
 -- ---- one record, by numbers
 
 -- the step that the code has found
 pub step-lent : (l : List ℕ) (w : Walk) (p : Planned)
-    → stepOf p ≡ getD (plan (readBegin (w .unit) (take (length l - w .begin) (drop (w .begin) l)))) (w .done) (close (w .unit)) → stepOf p ≡ nextStep l w
+    → stepOf p ≡ getD (plan (readBegin (w .unit .0) (take (length l - w .begin) (drop (w .begin) l)))) (w .done) (close (w .unit .0)) → stepOf p ≡ nextStep l w
 unfolding nextStep
 step-lent l w p e = rw part-to-end at e
 
 -- the begin record that it is found in
-pub begin-lent : (l : List ℕ) (w : Walk) → w .begin + 44 ≤ length l → beginOk (readBegin (w .unit) (drop (w .begin) l)) ≡ true
-    → (44 ≤ length (take (length l - w .begin) (drop (w .begin) l))) × (beginOk (readBegin (w .unit) (take (length l - w .begin) (drop (w .begin) l))) ≡ true)
+pub begin-lent : (l : List ℕ) (w : Walk) → w .begin + 44 ≤ length l → beginOk (readBegin (w .unit .0) (drop (w .begin) l)) ≡ true
+    → (44 ≤ length (take (length l - w .begin) (drop (w .begin) l))) × (beginOk (readBegin (w .unit .0) (take (length l - w .begin) (drop (w .begin) l))) ≡ true)
 begin-lent l w h e = rw part-to-end (simp length-drop (omega arith), e)
 
 module _ (l : List ℕ) (w : Walk) (v : List ℕ) where
@@ -54,11 +53,11 @@ module _ (l : List ℕ) (w : Walk) (v : List ℕ) where
     pub redone-reads : Ahead l w → Reads l w (stepOf p)
     redone-reads a = subst (Reads l w) (sym e) (a .reads (not-false (w .opened) h))
 
-    pub redone-open! : (r : Bool) (v′ : List ℕ) → Did (repeat (w .number + 1) (recordAt l w (stepOf p)) v) v r v′ → Did (redone l w v) v r v′
+    pub redone-open! : (r : Bool) (v′ : List ℕ) → Did (repeat (w .number .0 + 1) (recordAt l w (stepOf p)) v) v r v′ → Did (redone l w v) v r v′
     unfolding redone
     redone-open! r v′ d =
-        let q : pick (w .opened) (repeat (w .number + 1) (recordAt l w (nextStep l w)) v) (some v) ≡ repeat (w .number + 1) (recordAt l w (stepOf p)) v =
-        pick-true _ _ _ (not-false (w .opened) h) ∙ ap (λ (x : Step). repeat (w .number + 1) (recordAt l w x) v) (sym e) in
+        let q : pick (w .opened) (repeat (w .number .0 + 1) (recordAt l w (nextStep l w)) v) (some v) ≡ repeat (w .number .0 + 1) (recordAt l w (stepOf p)) v =
+        pick-true _ _ _ (not-false (w .opened) h) ∙ ap (λ (x : Step). repeat (w .number .0 + 1) (recordAt l w x) v) (sym e) in
         rw q d
 
 -- ---- the record that comes next
@@ -90,15 +89,14 @@ module _ {l : List ℕ} {s : State} {r : Rec} {rs : List Rec} {o : Open} (t : To
       let m : Moved _ = a .moved in
       (omega (arith, k .1), h, omega (arith, a .count, m .some-rows), omega (arith, a .count, m .few-rows), a .room, rw (a .rows) (m .order))
   reads-of (point base old new other) xs e k h =
-      let small : new < 64 = ⊎-elim (λ (z : new ≡ 0). omega arith) (λ (z : Leafy new). omega (arith, z .1)) (k .1) in
-      (omega (arith, k .0 .1), small, omega (arith, toward-room t, shown-at s, modify-size r base old new _ (toward-record t op e)))
+      (omega (arith, k .0 .1), omega (arith, toward-room t, shown-at s, modify-size r base old new _ (toward-record t op e)))
   reads-of (close unit) xs e k h = tt
 
 begin-repeats : (n : ℕ) (g : Begin) (v : List ℕ) → repeat n (LB g) v ≡ some v
 unfolding repeat target changedAt
 begin-repeats n g v = refl
 
-shown-number : (s : State) → (shown s) .number ≡ s .number
+shown-number : (s : State) → (shown s) .number .0 ≡ s .number
 unfolding shown
 shown-number s = refl
 
@@ -116,7 +114,7 @@ module _ {l : List ℕ} {s : State} {r : Rec} {rs : List Rec} (b : Bytes l) (t :
         reads = λ h.
             let o = shown-opened s h in
             let x = toward-next t (o .is) in
-            let k : StepKeeps (nextStep l (shown s)) = unfold nextStep in keeps-at ((shown s) .done) ((shown s) .unit) (plan-keeps _ (x .ok)) in
+            let k : StepKeeps (nextStep l (shown s)) = unfold nextStep in keeps-at ((shown s) .done) ((shown s) .unit .0) (plan-keeps _ (x .ok)) in
             subst (Reads l (shown s)) (sym (next-is x)) (reads-of t (o .is) (x .step) (x .others) (x .todo) (subst StepKeeps (next-is x) k) (x .room));
       }
 

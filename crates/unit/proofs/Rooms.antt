@@ -10,6 +10,8 @@ use lib.ListN.{length, drop, getD, length-append, drop-of-length-le}
 use lib.Seq.{drop-cons}
 use lib.Dec.{eqb}
 use Rattle.field.proofs.Test.{pick-either}
+use Rattle.field.specs.declared.PageNo.{PageNo}
+use Rattle.field.specs.declared.UnitNo.{UnitNo}
 use Rattle.log.specs.Record.{Begin, lengthOf, out}
 use Rattle.log.specs.Table.{kindAt, kinds}
 use Rattle.log.specs.Steps.{stepOf}
@@ -40,19 +42,19 @@ out-fits a b k e f h = let x = each-out a b e f in let y : b - a ≡ 16 = omega 
 -- ---- the bytes of a step, by its kind
 
 module _ (s : Planned) (w : List ℕ) (r : ℕ) where
-  pub size-out! : {org dest c : ℕ} → s ≡ Out org dest → r ≡ lengthOf out c → c ≡ count (page org w) → r ≡ stepSize w (stepOf s)
+  pub size-out! : {org dest : PageNo} {c : ℕ} → s ≡ Out org dest → r ≡ lengthOf out c → c ≡ count (page (org .0) w) → r ≡ stepSize w (stepOf s)
   unfolding stepSize stepOf
   size-out! e f g = rw (e, f, g)
 
-  pub size-in! : {org dest back : ℕ} → s ≡ In org dest back → r ≡ lengthOf (kindAt 3) 0 → r ≡ stepSize w (stepOf s)
+  pub size-in! : {org dest : PageNo} {back : ℕ} → s ≡ In org dest back → r ≡ lengthOf (kindAt 3) 0 → r ≡ stepSize w (stepOf s)
   unfolding stepSize stepOf lengthOf kindAt kinds
   size-in! e f = rw (e, f)
 
-  pub size-point! : {base old new : ℕ} {other : Bool} → s ≡ Point base old new other → r ≡ lengthOf (kindAt 4) 0 → r ≡ stepSize w (stepOf s)
+  pub size-point! : {base old new : PageNo} {other : Bool} → s ≡ Point base old new other → r ≡ lengthOf (kindAt 4) 0 → r ≡ stepSize w (stepOf s)
   unfolding stepSize stepOf lengthOf kindAt kinds
   size-point! e f = rw (e, f)
 
-  pub size-close! : {unit : ℕ} → s ≡ Close unit → r ≡ lengthOf (kindAt 5) 0 → r ≡ stepSize w (stepOf s)
+  pub size-close! : {unit : UnitNo} → s ≡ Close unit → r ≡ lengthOf (kindAt 5) 0 → r ≡ stepSize w (stepOf s)
   unfolding stepSize stepOf lengthOf kindAt kinds
   size-close! e f = rw (e, f)
 
@@ -67,24 +69,24 @@ kind-small (suc (suc (suc (suc zero)))) r h e = omega arith
 kind-small (suc (suc (suc (suc (suc zero))))) r h e = omega arith
 kind-small (suc (suc (suc (suc (suc (suc j)))))) r h e = absurd (let x : ⊥ = omega arith in x)
 
-pub inside-out : (s : Planned) {org dest : ℕ} → s ≡ Out org dest → Inside (stepOf s) → org < 64
+pub inside-out : (s : Planned) {org dest : PageNo} → s ≡ Out org dest → Inside (stepOf s) → org .0 < 64
 unfolding stepOf
 inside-out s e h = rw e at h
 
 module _ (s : Planned) where
-  pub close-out! : {org dest : ℕ} → s ≡ Out org dest → false ≡ isClose (stepOf s)
+  pub close-out! : {org dest : PageNo} → s ≡ Out org dest → false ≡ isClose (stepOf s)
   unfolding stepOf isClose
   close-out! e = rw e
 
-  pub close-in! : {org dest back : ℕ} → s ≡ In org dest back → false ≡ isClose (stepOf s)
+  pub close-in! : {org dest : PageNo} {back : ℕ} → s ≡ In org dest back → false ≡ isClose (stepOf s)
   unfolding stepOf isClose
   close-in! e = rw e
 
-  pub close-point! : {base old new : ℕ} {other : Bool} → s ≡ Point base old new other → false ≡ isClose (stepOf s)
+  pub close-point! : {base old new : PageNo} {other : Bool} → s ≡ Point base old new other → false ≡ isClose (stepOf s)
   unfolding stepOf isClose
   close-point! e = rw e
 
-  pub close-end! : {unit : ℕ} → s ≡ Close unit → true ≡ isClose (stepOf s)
+  pub close-end! : {unit : UnitNo} → s ≡ Close unit → true ≡ isClose (stepOf s)
   unfolding stepOf isClose
   close-end! e = rw e
 

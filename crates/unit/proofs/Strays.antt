@@ -17,30 +17,32 @@ use Rattle.page.proofs.Turns.{rows-next}
 use Rattle.tree.specs.Tree.{Leaf, leafAt, leavesUnder, leavesBelow, leavesOf}
 use Rattle.tree.proofs.Turn.{none-left}
 use Rattle.unit.specs.Choice.{place, baseOf}
-use Rattle.unit.specs.Chosen.{strayIn, stray, pointsTo}
+use Rattle.unit.specs.Chosen.{pageNo, strayIn, stray, pointsTo}
 use Rattle.unit.proofs.Walk.{leaves-next, leaves-end, root-front, Ahead, ahead-base, base-rows}
+use Rattle.field.specs.declared.PageNo.{PageNo}
 use Rattle.unit.specs.declared.order.Stray.{Stray}
 use Rattle.unit.specs.declared.order.Stray.the-variants.{Nowhere, At}
 
 -- ---- a loop over the entries of one base page, for `search`: it stops, it goes on, its end
 
-module _ (b i i₀ n₀ at₀ n at : ℕ) (l : List ℕ) (e : strayIn i₀ b (rowsOf 8 n₀ (drop at₀ l)) ≡ strayIn i b (rowsOf 8 n (drop at l))) where
-  pub stray-end! : n ≤ 0 → Nowhere ≡ strayIn i₀ b (rowsOf 8 n₀ (drop at₀ l))
+module _ (b : PageNo) (i i₀ n₀ at₀ n at : ℕ) (l : List ℕ) (e : strayIn i₀ (b .0) (rowsOf 8 n₀ (drop at₀ l)) ≡ strayIn i (b .0) (rowsOf 8 n (drop at l))) where
+  pub stray-end! : n ≤ 0 → Nowhere ≡ strayIn i₀ (b .0) (rowsOf 8 n₀ (drop at₀ l))
   unfolding strayIn
   stray-end! h = sym (e ∙ rw (none-left 8 n (drop at l) h))
 
-  module _ (p want : ℕ) (f : p ≡ le2 l (at + 6)) (g : want ≡ place i) (more : 0 < n) where
-    turn : strayIn i₀ b (rowsOf 8 n₀ (drop at₀ l)) ≡ pick (eqb p want) (strayIn (i + 1) b (rowsOf 8 (n - 1) (drop (at + 8) l))) (At want b p)
+  module _ (p : ℕ) (want : PageNo) (f : p ≡ le2 l (at + 6)) (g : want .0 ≡ place i) (more : 0 < n) where
+    turn : strayIn i₀ (b .0) (rowsOf 8 n₀ (drop at₀ l)) ≡ pick (eqb p (want .0)) (strayIn (i + 1) (b .0) (rowsOf 8 (n - 1) (drop (at + 8) l)))
+        (At (pageNo (want .0)) (pageNo (b .0)) (pageNo p))
     unfolding strayIn
     turn = e ∙ rw (rows-next 8 n at l more, page-row 8 at l (omega arith), f, g)
 
-    pub stray-stop! : (p ≡ want → ⊥) → At want b p ≡ strayIn i₀ b (rowsOf 8 n₀ (drop at₀ l))
+    pub stray-stop! : (p ≡ want .0 → ⊥) → At want b (pageNo p) ≡ strayIn i₀ (b .0) (rowsOf 8 n₀ (drop at₀ l))
     unfolding pick
-    stray-stop! h = sym (turn ∙ rw (ne-eqb p want h))
+    stray-stop! h = sym (turn ∙ rw (ne-eqb p (want .0) h))
 
-    pub stray-more! : p ≡ want → strayIn i₀ b (rowsOf 8 n₀ (drop at₀ l)) ≡ strayIn (i + 1) b (rowsOf 8 (n - 1) (drop (at + 8) l))
+    pub stray-more! : p ≡ want .0 → strayIn i₀ (b .0) (rowsOf 8 n₀ (drop at₀ l)) ≡ strayIn (i + 1) (b .0) (rowsOf 8 (n - 1) (drop (at + 8) l))
     unfolding pick
-    stray-more! h = turn ∙ rw (eq-eqb p want h)
+    stray-more! h = turn ∙ rw (eq-eqb p (want .0) h)
 
 module _ (p n₀ at₀ n at : ℕ) (l : List ℕ) (e : pointsTo p (rowsOf 8 n₀ (drop at₀ l)) ≡ pointsTo p (rowsOf 8 n (drop at l))) where
   pub points-end! : n ≤ 0 → false ≡ pointsTo p (rowsOf 8 n₀ (drop at₀ l))
@@ -67,7 +69,7 @@ unfoldable pub onward : Stray → Stray → Stray
 onward Nowhere y = y
 onward (At want b p) y = At want b p
 
-pick-onward : (t : Bool) (x y : Stray) (want b p : ℕ) → pick t (onward x y) (At want b p) ≡ onward (pick t x (At want b p)) y
+pick-onward : (t : Bool) (x y : Stray) (want b p : PageNo) → pick t (onward x y) (At want b p) ≡ onward (pick t x (At want b p)) y
 unfolding pick onward
 pick-onward true x y want b p = refl
 pick-onward false x y want b p = refl
@@ -77,7 +79,7 @@ unfolding stray strayIn leavesUnder leafAt
 stray-under ps i b [] ls = rw (add-zero i) (unfold onward in refl)
 stray-under ps i b (e ∷ es) ls =
     let q : i + 1 + length es ≡ i + suc (length es) = omega arith in
-    rw (stray-under ps (i + 1) b es ls, q) (pick-onward (eqb (toPage e) (place i)) (strayIn (i + 1) b es) (stray (i + suc (length es)) ls) (place i) b (toPage e))
+    rw (stray-under ps (i + 1) b es ls, q) (pick-onward (eqb (toPage e) (place i)) (strayIn (i + 1) b es) (stray (i + suc (length es)) ls) (pageNo (place i)) (pageNo b) (pageNo (toPage e)))
 
 pick-pick : (s t : Bool) (x y : ℕ) → pick s x (pick t x y) ≡ pick (pick s true t) x y
 unfolding pick
@@ -102,7 +104,7 @@ module _ (w : List ℕ) (i at n : ℕ) (e : stray 0 (leavesOf (pages w)) ≡ str
         let l : length (rows 8 (page q w)) ≡ m = length-rows 8 (page q w) ∙ sym g in
         e ∙ rw (leaves-next w n at w q f s more, stray-under (pages w) i q (rows 8 (page q w)) (leavesBelow (pages w) (rowsOf 8 (n - 1) (drop (at + 8) w))), l, k, base-rows w q m g)
 
-    pub leaf-stop! : {want b p : ℕ} → r ≡ At want b p → r ≡ stray 0 (leavesOf (pages w))
+    pub leaf-stop! : {want b p : PageNo} → r ≡ At want b p → r ≡ stray 0 (leavesOf (pages w))
     unfolding onward
     leaf-stop! h = sym (step ∙ rw h)
 

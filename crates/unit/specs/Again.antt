@@ -25,31 +25,31 @@ InReads l w dest back =
     (dest < 64) × (w .begin + 44 ≤ length l) × (1 ≤ sourceRows w back) × (sourceRows w back ≤ 15)
     × (sourceAt w back + 20 + 16 * sourceRows w back ≤ length l) × (ascendRecords 0 (sourced l w back) ≡ true)
 
-abbrev pub PointReads : (l : List ℕ) → Walk → (base new : ℕ) → Type 0
-PointReads l w base new = (base < 64) × (new < 64) × (w .at + 28 ≤ length l)
+abbrev pub PointReads : (l : List ℕ) → Walk → (base : ℕ) → Type 0
+PointReads l w base = (base < 64) × (w .at + 28 ≤ length l)
 
 abbrev pub Reads : (l : List ℕ) → Walk → Step → Type 0
 Reads l w (takeOut org dest) = OutReads l w org
 Reads l w (bringIn org dest back) = InReads l w dest back
-Reads l w (point base old new other) = PointReads l w base new
+Reads l w (point base old new other) = PointReads l w base
 Reads l w (close unit) = Unit {0}
 
 -- ---- the record at the walk's end
 
 -- the step of the open unit that it left
 unfoldable pub nextStep : (l : List ℕ) → Walk → Step
-nextStep l w = getD (plan (readBegin (w .unit) (drop (w .begin) l))) (w .done) (close (w .unit))
+nextStep l w = getD (plan (readBegin (w .unit .0) (drop (w .begin) l))) (w .done) (close (w .unit .0))
 
 -- what is needed to read it off the log l
 pub record Ahead (l : List ℕ) (w : Walk) : Type 0 where
-  pub number : w .number < 4294967295
+  pub number : w .number .0 < 4294967295
   pub room : w .opened ≡ true → w .begin + 44 ≤ length l
-  pub start : w .opened ≡ true → beginOk (readBegin (w .unit) (drop (w .begin) l)) ≡ true
+  pub start : w .opened ≡ true → beginOk (readBegin (w .unit .0) (drop (w .begin) l)) ≡ true
   pub reads : w .opened ≡ true → Reads l w (nextStep l w)
 
 -- it repeated on the pages v: where no unit is open it is an LB, which changes none
 unfoldable pub redone : (l : List ℕ) → Walk → (v : List ℕ) → Option (List ℕ)
-redone l w v = pick (w .opened) (repeat (w .number + 1) (recordAt l w (nextStep l w)) v) (some v)
+redone l w v = pick (w .opened) (repeat (w .number .0 + 1) (recordAt l w (nextStep l w)) v) (some v)
 
 -- ---- the whole log
 

@@ -10,6 +10,7 @@ use lib.Dec.{eqb, leb}
 use Rattle.field.specs.Test.{pick, when}
 use Rattle.field.specs.Bytes.{zeroes}
 use Rattle.page.specs.Page.{toPage, count}
+use Rattle.field.specs.declared.PageNo.{PageNo}
 use Rattle.log.specs.Record.{Begin}
 use Rattle.tree.specs.Tree.{Leaf, under}
 use Rattle.unit.specs.Choice.{larger, place, putInOrder}
@@ -18,6 +19,9 @@ use Rattle.unit.specs.declared.order.Stray.{Stray}
 use Rattle.unit.specs.declared.order.Stray.the-variants.{Nowhere, At}
 
 -- ---- a unit by value
+
+abbrev pub pageNo : ℕ → PageNo
+pageNo p = record { 0 = p }
 
 -- the begin record of unit u, where a unit was found
 unfoldable pub chosen : Choice → (unit : ℕ) → Option Begin
@@ -29,7 +33,7 @@ chosen r u =
       fill = r .fill;
       bases = take (r .«base_count») (r .bases);
       leaves = take (r .«leaf_count») (r .leaves);
-      dest = r .dest;
+      dest = r .dest .0;
     })
 
 -- r is the unit that f gives, whatever its number; the array places beyond the counts are zero
@@ -49,12 +53,12 @@ leafOf b p = record { base = b; at = p; count = 0; first = 0 }
 -- of the leaves below the entries es of base page b; i is the first one's number in key order
 unfoldable pub strayIn : (i b : ℕ) → (es : List (List ℕ)) → Stray
 strayIn i b [] = Nowhere
-strayIn i b (e ∷ es) = let later = strayIn (i + 1) b es in pick (eqb (toPage e) (place i)) later (At (place i) b (toPage e))
+strayIn i b (e ∷ es) = let later = strayIn (i + 1) b es in pick (eqb (toPage e) (place i)) later (At (pageNo (place i)) (pageNo b) (pageNo (toPage e)))
 
 -- of these leaves
 unfoldable pub stray : (i : ℕ) → List Leaf → Stray
 stray i [] = Nowhere
-stray i (l ∷ ls) = let later = stray (i + 1) ls in pick (eqb (l .at) (place i)) later (At (place i) (l .base) (l .at))
+stray i (l ∷ ls) = let later = stray (i + 1) ls in pick (eqb (l .at) (place i)) later (At (pageNo (place i)) (pageNo (l .base)) (pageNo (l .at)))
 
 -- an entry points to page p
 unfoldable pub pointsTo : (p : ℕ) → (es : List (List ℕ)) → Bool
@@ -64,7 +68,7 @@ pointsTo p (e ∷ es) = let rest = pointsTo p es in pick (eqb (toPage e) p) true
 -- the unit that puts a misplaced leaf in order
 unfoldable pub inOrder : (unit : ℕ) (ps : List (List ℕ)) (ls : List Leaf) → Stray → Option Begin
 inOrder u ps ls Nowhere = none
-inOrder u ps ls (At want b p) = some (putInOrder u want ps ls (leafOf b p))
+inOrder u ps ls (At want b p) = some (putInOrder u (want .0) ps ls (leafOf (b .0) (p .0)))
 
 -- ---- a group of leaves under one base page
 

@@ -14,6 +14,7 @@ ghost use Rattle.unit.specs.Again.{OutReads, InReads, PointReads, Reads,
 use crate::apply;
 use field::LogNo;
 use field::PageNo;
+use log::kind;
 use log::past;
 use log::scan;
 use log::scan::Walk;
@@ -22,59 +23,40 @@ use log::steps;
 use log::steps::Planned;
 
 // The LO at the walk's end.
-fn out_again(work: &mut [u8], log: &[u8], w: Walk, org: u16) -> bool
-    requires { ⌜ (length (now work) ≡ 16384) × (w .number < 4294967295) × OutReads (now log) w org ⌝ }
-    ensures { λ r. ⌜ ((dest : ℕ) → Did (repeat (w .number + 1) (recordAt (now (log .entry)) w (takeOut org dest)) (now (work .entry))) (now (work .entry)) r (now (work .exit))) ⌝ }
+fn out_again(work: &mut [u8], log: &[u8], w: Walk, org: PageNo) -> bool
+    requires { ⌜ (length (now work) ≡ 16384) × (w .number .0 < 4294967295) × OutReads (now log) w (org .0) ⌝ }
+    ensures { λ r. ⌜ ((dest : ℕ) → Did (repeat (w .number .0 + 1) (recordAt (now (log .entry)) w (takeOut (org .0) dest)) (now (work .entry))) (now (work .entry)) r (now (work .exit))) ⌝ }
 {
-    let at = w.at + 20;
+    let at = w.at + kind::LO_LONG;
     let k = field::get2(log, w.at + 16);
     let end = at + 16 * (k as usize);
-    apply::repeat_out(
-        work,
-        PageNo(org as u32),
-        &log[at..end],
-        k,
-        LogNo(w.number + 1),
-    )
+    apply::repeat_out(work, org, &log[at..end], k, LogNo(w.number.0 + 1))
 }
 
 // The LI at the walk's end, whose LO stands `back` records before.
-fn in_again(work: &mut [u8], log: &[u8], w: Walk, dest: u16, back: u32) -> bool
-    requires { ⌜ (length (now work) ≡ 16384) × (w .number < 4294967295) × InReads (now log) w dest back ⌝ }
-    ensures { λ r. ⌜ ((org : ℕ) → Did (repeat (w .number + 1) (recordAt (now (log .entry)) w (bringIn org dest back)) (now (work .entry))) (now (work .entry)) r (now (work .exit))) ⌝ }
+fn in_again(work: &mut [u8], log: &[u8], w: Walk, dest: PageNo, back: u32) -> bool
+    requires { ⌜ (length (now work) ≡ 16384) × (w .number .0 < 4294967295) × InReads (now log) w (dest .0) back ⌝ }
+    ensures { λ r. ⌜ ((org : ℕ) → Did (repeat (w .number .0 + 1) (recordAt (now (log .entry)) w (bringIn org (dest .0) back)) (now (work .entry))) (now (work .entry)) r (now (work .exit))) ⌝ }
 {
-    let at = source::source_at(w, back) + 20;
+    let at = source::source_at(w, back) + kind::LO_LONG;
     let k = source::source_rows(w, back);
     let end = at + 16 * (k as usize);
-    apply::repeat_in(
-        work,
-        PageNo(dest as u32),
-        &log[at..end],
-        k,
-        LogNo(w.number + 1),
-    )
+    apply::repeat_in(work, dest, &log[at..end], k, LogNo(w.number.0 + 1))
 }
 
 // The LM at the walk's end.
-fn point_again(work: &mut [u8], log: &[u8], w: Walk, base: u16, old: u16, new: u16) -> bool
-    requires { ⌜ (length (now work) ≡ 16384) × (w .number < 4294967295) × PointReads (now log) w base new ⌝ }
-    ensures { λ r. ⌜ ((other : Bool) → Did (repeat (w .number + 1) (recordAt (now (log .entry)) w (point base old new other)) (now (work .entry))) (now (work .entry)) r (now (work .exit))) ⌝ }
+fn point_again(work: &mut [u8], log: &[u8], w: Walk, base: PageNo, old: PageNo, new: PageNo) -> bool
+    requires { ⌜ (length (now work) ≡ 16384) × (w .number .0 < 4294967295) × PointReads (now log) w (base .0) ⌝ }
+    ensures { λ r. ⌜ ((other : Bool) → Did (repeat (w .number .0 + 1) (recordAt (now (log .entry)) w (point (base .0) (old .0) (new .0) other)) (now (work .entry))) (now (work .entry)) r (now (work .exit))) ⌝ }
 {
     let key = field::get4(log, w.at + 20);
-    apply::repeat_modify(
-        work,
-        PageNo(base as u32),
-        old,
-        new,
-        key,
-        LogNo(w.number + 1),
-    )
+    apply::repeat_modify(work, base, old, new, key, LogNo(w.number.0 + 1))
 }
 
 // The record of a step at the walk's end.
 fn step_again(work: &mut [u8], log: &[u8], w: Walk, x: Planned) -> bool
-    requires { ⌜ (length (now work) ≡ 16384) × (w .number < 4294967295) × Reads (now log) w (stepOf x) ⌝ }
-    ensures { λ r. ⌜ Did (repeat (w .number + 1) (recordAt (now (log .entry)) w (stepOf x)) (now (work .entry))) (now (work .entry)) r (now (work .exit)) ⌝ }
+    requires { ⌜ (length (now work) ≡ 16384) × (w .number .0 < 4294967295) × Reads (now log) w (stepOf x) ⌝ }
+    ensures { λ r. ⌜ Did (repeat (w .number .0 + 1) (recordAt (now (log .entry)) w (stepOf x)) (now (work .entry))) (now (work .entry)) r (now (work .exit)) ⌝ }
 {
     match x {
         Planned::Out { org, dest: _ } => out_again(work, log, w, org),

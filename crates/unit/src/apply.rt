@@ -115,9 +115,9 @@ pub fn bring_in(w: &mut [u8], dest: PageNo, rs: &[u8], k: u16, n: LogNo) -> bool
 }
 
 // The place of the entry of page base, a base page, with this key to page old; the number of its entries where there is none.
-fn entry_at(w: &[u8], base: PageNo, old: u16, key: u32) -> u16
+fn entry_at(w: &[u8], base: PageNo, old: PageNo, key: u32) -> u16
     requires { ⌜ (length (now w) ≡ 16384) × (base .0 < 64) × (isBase (page (base .0) (now w)) ≡ true) ⌝ }
-    ensures { λ r. ⌜ r ≡ placeOf key old (entries (page (base .0) (now (w .entry)))) ⌝ }
+    ensures { λ r. ⌜ r ≡ placeOf key (old .0) (entries (page (base .0) (now (w .entry)))) ⌝ }
 {
     let at = 256 * (base.0 as usize);
     let rows = well::count_at(w, base.0 as usize);
@@ -125,9 +125,9 @@ fn entry_at(w: &[u8], base: PageNo, old: u16, key: u32) -> u16
 }
 
 // Whether an LM can be made: page base is a base page and has the entry with this key to page old, and where new is 0, another.
-pub fn can_modify(w: &[u8], base: PageNo, old: u16, new: u16, key: u32) -> bool
+pub fn can_modify(w: &[u8], base: PageNo, old: PageNo, new: PageNo, key: u32) -> bool
     requires { ⌜ (length (now w) ≡ 16384) × (base .0 < 64) ⌝ }
-    ensures { λ r. ⌜ ((n : ℕ) → r ≡ there (apply n (LM (base .0) old new key) (now (w .entry)))) ⌝ }
+    ensures { λ r. ⌜ ((n : ℕ) → r ≡ there (apply n (LM (base .0) (old .0) (new .0) key) (now (w .entry)))) ⌝ }
 {
     let at = 256 * (base.0 as usize);
     if !form::is_base(&w[at..at + 256]) {
@@ -137,23 +137,23 @@ pub fn can_modify(w: &[u8], base: PageNo, old: u16, new: u16, key: u32) -> bool
     if entry_at(w, base, old, key) == rows {
         return false;
     }
-    if new != 0 {
+    if new.0 != 0 {
         return true;
     }
     2 <= rows
 }
 
 // An LM: the entry of page base with this key to page old points to page new, or where new is 0, is removed if it is not the only one.
-pub fn modify(w: &mut [u8], base: PageNo, old: u16, new: u16, key: u32, n: LogNo) -> bool
-    requires { ⌜ (length (now w) ≡ 16384) × (base .0 < 64) × (new < 64) ⌝ }
-    ensures { λ r. ⌜ Did (apply (n .0) (LM (base .0) old new key) (now (w .entry))) (now (w .entry)) r (now (w .exit)) ⌝ }
+pub fn modify(w: &mut [u8], base: PageNo, old: PageNo, new: PageNo, key: u32, n: LogNo) -> bool
+    requires { ⌜ (length (now w) ≡ 16384) × (base .0 < 64) ⌝ }
+    ensures { λ r. ⌜ Did (apply (n .0) (LM (base .0) (old .0) (new .0) key) (now (w .entry))) (now (w .entry)) r (now (w .exit)) ⌝ }
 {
     if !can_modify(w, base, old, new, key) {
         return false;
     }
     let i = entry_at(w, base, old, key) as usize;
-    if new != 0 {
-        place::redirect_at(w, base, i, PageNo(new as u32), n);
+    if new.0 != 0 {
+        place::redirect_at(w, base, i, new, n);
         return true;
     }
     place::remove_at(w, base, i, n);
@@ -192,9 +192,16 @@ pub fn repeat_in(w: &mut [u8], dest: PageNo, rs: &[u8], k: u16, n: LogNo) -> boo
 }
 
 // An LM repeated.
-pub fn repeat_modify(w: &mut [u8], base: PageNo, old: u16, new: u16, key: u32, n: LogNo) -> bool
-    requires { ⌜ (length (now w) ≡ 16384) × (base .0 < 64) × (new < 64) ⌝ }
-    ensures { λ r. ⌜ Did (repeat (n .0) (LM (base .0) old new key) (now (w .entry))) (now (w .entry)) r (now (w .exit)) ⌝ }
+pub fn repeat_modify(
+    w: &mut [u8],
+    base: PageNo,
+    old: PageNo,
+    new: PageNo,
+    key: u32,
+    n: LogNo,
+) -> bool
+    requires { ⌜ (length (now w) ≡ 16384) × (base .0 < 64) ⌝ }
+    ensures { λ r. ⌜ Did (repeat (n .0) (LM (base .0) (old .0) (new .0) key) (now (w .entry))) (now (w .entry)) r (now (w .exit)) ⌝ }
 {
     if stamped(w, base, n) {
         return true;

@@ -7,6 +7,7 @@ ghost use Rattle.page.specs.Pages.{page};
 ghost use Rattle.tree.specs.Walk.{InForm};
 ghost use Rattle.unit.specs.Choice.{moveOf, swapOf};
 ghost use Rattle.unit.specs.Chosen.{Picks, leafOf};
+use field::PageNo;
 
 // The unit's type and fill, its base pages and leaves, of which the first base_count and leaf_count are listed and the others are zero,
 // and its destination.
@@ -18,7 +19,7 @@ pub struct Choice {
     pub leaf_count: u8,
     pub bases: [u16; 2],
     pub leaves: [u16; 8],
-    pub dest: u16,
+    pub dest: PageNo,
 }
 
 // No unit.
@@ -33,13 +34,13 @@ pub fn nothing() -> Choice
         leaf_count: 0,
         bases: [0; 2],
         leaves: [0; 8],
-        dest: 0,
+        dest: PageNo(0),
     }
 }
 
 // The move of a leaf under a base page to an empty page.
-pub fn moving(base: u16, page: u16, dest: u16) -> Choice
-    ensures { λ r. ⌜ Picks r (λ u. some (moveOf u (leafOf base page) dest)) ⌝ }
+pub fn moving(base: PageNo, page: PageNo, dest: PageNo) -> Choice
+    ensures { λ r. ⌜ Picks r (λ u. some (moveOf u (leafOf (base .0) (page .0)) (dest .0))) ⌝ }
 {
     Choice {
         found: true,
@@ -47,27 +48,27 @@ pub fn moving(base: u16, page: u16, dest: u16) -> Choice
         fill: 0,
         base_count: 1,
         leaf_count: 1,
-        bases: [base, 0],
-        leaves: [page, 0, 0, 0, 0, 0, 0, 0],
+        bases: [base.0, 0],
+        leaves: [page.0, 0, 0, 0, 0, 0, 0, 0],
         dest: dest,
     }
 }
 
 // The swap of the leaf on page a, under another base page or the same, with the leaf on the page given.
-pub fn swapping(base: u16, page: u16, a: u16, other: u16) -> Choice
-    ensures { λ r. ⌜ Picks r (λ u. some (swapOf u (leafOf base page) a other)) ⌝ }
+pub fn swapping(base: PageNo, page: PageNo, a: PageNo, other: PageNo) -> Choice
+    ensures { λ r. ⌜ Picks r (λ u. some (swapOf u (leafOf (base .0) (page .0)) (a .0) (other .0))) ⌝ }
 {
-    let leaves = [a, page, 0, 0, 0, 0, 0, 0];
-    if other == base {
+    let leaves = [a.0, page.0, 0, 0, 0, 0, 0, 0];
+    if other.0 == base.0 {
         return Choice {
             found: true,
             kind: 2,
             fill: 0,
             base_count: 1,
             leaf_count: 2,
-            bases: [other, 0],
+            bases: [other.0, 0],
             leaves: leaves,
-            dest: 0,
+            dest: PageNo(0),
         };
     }
     Choice {
@@ -76,16 +77,16 @@ pub fn swapping(base: u16, page: u16, a: u16, other: u16) -> Choice
         fill: 0,
         base_count: 2,
         leaf_count: 2,
-        bases: [other, base],
+        bases: [other.0, base.0],
         leaves: leaves,
-        dest: 0,
+        dest: PageNo(0),
     }
 }
 
 // Whether page p is empty: its letter says so.
-pub fn empty_at(w: &[u8], p: usize) -> bool
-    requires { ⌜ InForm (now w) × (p < 64) ⌝ }
-    ensures { λ r. ⌜ r ≡ isEmpty (page p (now (w .entry))) ⌝ }
+pub fn empty_at(w: &[u8], p: PageNo) -> bool
+    requires { ⌜ InForm (now w) × (p .0 < 64) ⌝ }
+    ensures { λ r. ⌜ r ≡ isEmpty (page (p .0) (now (w .entry))) ⌝ }
 {
-    w[256 * p + 1] == b'e'
+    w[256 * (p.0 as usize) + 1] == b'e'
 }

@@ -18,6 +18,7 @@ ghost use Rattle.unit.specs.Choice.{fillOf, exceeds, lowestEmpty, compac
 ghost use Rattle.unit.specs.Chosen.{Picks, leafOf, toPages, joins, topOf};
 use crate::choice;
 use crate::choice::Choice;
+use field::PageNo;
 use tree::well;
 
 // The fill that is meant: 0 means 12.
@@ -31,24 +32,25 @@ fn fill_of(fill: u32) -> u16
     fill as u16
 }
 
-fn larger(a: u16, b: u16) -> u16
-    ensures { λ r. ⌜ r ≡ larger a b ⌝ }
+fn larger(a: PageNo, b: PageNo) -> PageNo
+    ensures { λ r. ⌜ r .0 ≡ larger (a .0) (b .0) ⌝ }
 {
-    if a <= b {
+    if a.0 <= b.0 {
         return b;
     }
     a
 }
 
 // The lowest empty page above `low` and below c, c where there is none.
-fn lowest_empty(w: &[u8], low: u16, c: u16) -> u16
-    requires { ⌜ InForm (now w) × (low < 64) × (c < 64) ⌝ }
-    ensures { λ r. ⌜ r ≡ lowestEmpty low c 0 (pages (now (w .entry))) ⌝ }
+fn lowest_empty(w: &[u8], low: PageNo, c: PageNo) -> PageNo
+    requires { ⌜ InForm (now w) × (low .0 < 64) × (c .0 < 64) ⌝ }
+    ensures { λ r. ⌜ r .0 ≡ lowestEmpty (low .0) (c .0) 0 (pages (now (w .entry))) ⌝ }
 {
-    let mut p = low + 1;
-    while p < c {
-        if choice::empty_at(w, p as usize) {
-            return p;
+    let above = low.0;
+    let mut p = above + 1;
+    while p < c.0 {
+        if choice::empty_at(w, PageNo(p)) {
+            return PageNo(p);
         }
         p += 1;
     }
@@ -56,15 +58,15 @@ fn lowest_empty(w: &[u8], low: u16, c: u16) -> u16
 }
 
 // The largest of `from` and the pages that n entries of the page pg point to.
-fn top_of(pg: &[u8], n: u16, from: u16) -> u16
+fn top_of(pg: &[u8], n: u16, from: PageNo) -> PageNo
     requires { ⌜ 16 + 8 * n ≤ length (now pg) ⌝ }
-    ensures { λ r. ⌜ r ≡ topOf from (rowsOf 8 n (drop 16 (now (pg .entry)))) ⌝ }
+    ensures { λ r. ⌜ r .0 ≡ topOf (from .0) (rowsOf 8 n (drop 16 (now (pg .entry)))) ⌝ }
 {
     let mut low = from;
     let mut at: usize = 16;
     let mut left = n;
     while 0 < left {
-        low = larger(low, field::get2(pg, at + 6));
+        low = larger(low, PageNo(field::get2(pg, at + 6)));
         at += 8;
         left -= 1;
     }
@@ -72,14 +74,14 @@ fn top_of(pg: &[u8], n: u16, from: u16) -> u16
 }
 
 // Whether the smallest key of the leaf page p exceeds LK, if there is one.
-fn exceeds(w: &[u8], p: usize, there: bool, lk: u32) -> bool
-    requires { ⌜ (length (now w) ≡ 16384) × Spot 16 (now w) p ⌝ }
-    ensures { λ r. ⌜ r ≡ exceeds (keyOf (getD (records (page p (now (w .entry)))) 0 [])) (when there lk) ⌝ }
+fn exceeds(w: &[u8], p: PageNo, there: bool, lk: u32) -> bool
+    requires { ⌜ (length (now w) ≡ 16384) × Spot 16 (now w) (p .0) ⌝ }
+    ensures { λ r. ⌜ r ≡ exceeds (keyOf (getD (records (page (p .0) (now (w .entry)))) 0 [])) (when there lk) ⌝ }
 {
     if !there {
         return true;
     }
-    lk < field::get4(w, 256 * p + 18)
+    lk < field::get4(w, 256 * (p.0 as usize) + 18)
 }
 
 // How many of the leaves below n entries from the offset start of the page pg join a group that has `from` records.
@@ -135,14 +137,14 @@ fn compacting(
     pg: &[u8],
     start: usize,
     k: usize,
-    b: u16,
-    c: u16,
+    b: PageNo,
+    c: PageNo,
     fill: u16,
-    low: u16,
+    low: PageNo,
 ) -> Choice
-    requires { ⌜ InForm (now w) × (low < 64) × (c < 64) × (fill ≤ 15) ⌝ }
+    requires { ⌜ InForm (now w) × (low .0 < 64) × (c .0 < 64) × (fill ≤ 15) ⌝ }
     requires { ⌜ (k ≤ 8) × (start + 8 * k ≤ length (now pg)) ⌝ }
-    ensures { λ r. ⌜ Picks r (λ u. some (compactOf u fill (leafOf b c) (toPages (rowsOf 8 k (drop start (now (pg .entry))))) (lowestEmpty low c 0 (pages (now (w .entry)))))) ⌝ }
+    ensures { λ r. ⌜ Picks r (λ u. some (compactOf u fill (leafOf (b .0) (c .0)) (toPages (rowsOf 8 k (drop start (now (pg .entry))))) (lowestEmpty (low .0) (c .0) 0 (pages (now (w .entry)))))) ⌝ }
 {
     let dest = lowest_empty(w, low, c);
     let leaves = listing(pg, start, k);
@@ -152,16 +154,16 @@ fn compacting(
         fill: fill as u8,
         base_count: 1,
         leaf_count: k as u8,
-        bases: [b, 0],
+        bases: [b.0, 0],
         leaves: leaves,
         dest: dest,
     }
 }
 
 // Whether a leaf on page p begins a unit where k leaves join it: it is not alone, and its smallest key exceeds LK.
-fn begins(w: &[u8], p: usize, k: u16, there: bool, lk: u32) -> bool
-    requires { ⌜ (length (now w) ≡ 16384) × Spot 16 (now w) p ⌝ }
-    ensures { λ r. ⌜ r ≡ both (exceeds (keyOf (getD (records (page p (now (w .entry)))) 0 [])) (when there lk)) (leb 1 k) ⌝ }
+fn begins(w: &[u8], p: PageNo, k: u16, there: bool, lk: u32) -> bool
+    requires { ⌜ (length (now w) ≡ 16384) × Spot 16 (now w) (p .0) ⌝ }
+    ensures { λ r. ⌜ r ≡ both (exceeds (keyOf (getD (records (page (p .0) (now (w .entry)))) 0 [])) (when there lk)) (leb 1 k) ⌝ }
 {
     if k < 1 {
         return false;
@@ -174,30 +176,30 @@ fn compact_in(
     w: &[u8],
     pg: &[u8],
     n: u16,
-    b: u16,
+    b: PageNo,
     fill: u16,
     there: bool,
     lk: u32,
-    from: u16,
+    from: PageNo,
 ) -> Choice
-    requires { ⌜ InForm (now w) × (16 + 8 * n ≤ length (now pg)) × (fill ≤ 15) × (from < 64) ⌝ }
+    requires { ⌜ InForm (now w) × (16 + 8 * n ≤ length (now pg)) × (fill ≤ 15) × (from .0 < 64) ⌝ }
     requires { ⌜ Each (Below 16 (now w)) (rowsOf 8 n (drop 16 (now pg))) ⌝ }
-    ensures { λ r. ⌜ Picks r (λ u. chooseCompact u fill from (when there lk) (pages (now (w .entry))) (leavesUnder (pages (now (w .entry))) b (rowsOf 8 n (drop 16 (now (pg .entry)))))) ⌝ }
+    ensures { λ r. ⌜ Picks r (λ u. chooseCompact u fill (from .0) (when there lk) (pages (now (w .entry))) (leavesUnder (pages (now (w .entry))) (b .0) (rowsOf 8 n (drop 16 (now (pg .entry)))))) ⌝ }
 {
     let mut low = from;
     let mut at: usize = 16;
     let mut left = n;
     while 0 < left {
-        let c = field::get2(pg, at + 6);
+        let c = PageNo(field::get2(pg, at + 6));
         let k = joining(
             w,
             pg,
             at + 8,
             seven(left - 1),
             fill,
-            well::count_at(w, c as usize),
+            well::count_at(w, c.0 as usize),
         );
-        if begins(w, c as usize, k, there, lk) {
+        if begins(w, c, k, there, lk) {
             return compacting(w, pg, at, k as usize + 1, b, c, fill, low);
         }
         low = larger(low, c);
@@ -213,13 +215,13 @@ pub fn choose_compact(w: &[u8], fill: u32, there: bool, lk: u32) -> Choice
     ensures { λ r. ⌜ Picks r (λ u. compactUnit u fill (when there lk) (pages (now (w .entry)))) ⌝ }
 {
     let most = fill_of(fill);
-    let mut low: u16 = 7;
+    let mut low = PageNo(7);
     let mut at: usize = 16;
     let mut left = well::count_at(w, 0);
     while 0 < left {
-        let q = field::get2(w, at + 6);
-        let n = well::count_at(w, q as usize);
-        let o = 256 * (q as usize);
+        let q = PageNo(field::get2(w, at + 6));
+        let n = well::count_at(w, q.0 as usize);
+        let o = 256 * (q.0 as usize);
         let found = compact_in(w, &w[o..o + 256], n, q, most, there, lk, low);
         if found.found {
             return found;

@@ -12,34 +12,39 @@ ghost use Rattle.unit.specs.Choice.{place, baseOf, orderUnit};
 ghost use Rattle.unit.specs.Chosen.{Picks, strayIn, stray, pointsTo};
 use crate::choice;
 use crate::choice::Choice;
+use field::PageNo;
 use tree::well;
 
 // The first misplaced leaf: the page where it belongs, its base page and its own page.
 pub enum Stray {
     Nowhere,
-    At { want: u16, base: u16, page: u16 },
+    At {
+        want: PageNo,
+        base: PageNo,
+        page: PageNo,
+    },
 }
 
 // The page where the i-th leaf in key order belongs.
-fn place(i: u16) -> u16
+fn place(i: u16) -> PageNo
     requires { ⌜ i < 1000 ⌝ }
-    ensures { λ r. ⌜ r ≡ place i ⌝ }
+    ensures { λ r. ⌜ r .0 ≡ place i ⌝ }
 {
-    8 + i
+    PageNo(8 + i)
 }
 
 // The first misplaced leaf below n entries of the base page b, whose bytes are pg; the first of them is the i-th leaf in key order.
-fn stray_in(pg: &[u8], n: u16, b: u16, first: u16) -> Stray
+fn stray_in(pg: &[u8], n: u16, b: PageNo, first: u16) -> Stray
     requires { ⌜ (16 + 8 * n ≤ length (now pg)) × (first + n < 1000) ⌝ }
-    ensures { λ r. ⌜ r ≡ strayIn first b (rowsOf 8 n (drop 16 (now (pg .entry)))) ⌝ }
+    ensures { λ r. ⌜ r ≡ strayIn first (b .0) (rowsOf 8 n (drop 16 (now (pg .entry)))) ⌝ }
 {
     let mut i = first;
     let mut at: usize = 16;
     let mut left = n;
     while 0 < left {
-        let p = field::get2(pg, at + 6);
+        let p = PageNo(field::get2(pg, at + 6));
         let want = place(i);
-        if p != want {
+        if p.0 != want.0 {
             return Stray::At {
                 want: want,
                 base: b,
@@ -54,14 +59,14 @@ fn stray_in(pg: &[u8], n: u16, b: u16, first: u16) -> Stray
 }
 
 // Whether one of n entries of the page pg points to page p.
-fn points_to(pg: &[u8], n: u16, p: u16) -> bool
+fn points_to(pg: &[u8], n: u16, p: PageNo) -> bool
     requires { ⌜ 16 + 8 * n ≤ length (now pg) ⌝ }
-    ensures { λ r. ⌜ r ≡ pointsTo p (rowsOf 8 n (drop 16 (now (pg .entry)))) ⌝ }
+    ensures { λ r. ⌜ r ≡ pointsTo (p .0) (rowsOf 8 n (drop 16 (now (pg .entry)))) ⌝ }
 {
     let mut at: usize = 16;
     let mut left = n;
     while 0 < left {
-        if field::get2(pg, at + 6) == p {
+        if field::get2(pg, at + 6) == p.0 {
             return true;
         }
         at += 8;
@@ -79,9 +84,9 @@ fn stray_leaf(w: &[u8]) -> Stray
     let mut at: usize = 16;
     let mut left = well::count_at(w, 0);
     while 0 < left {
-        let q = field::get2(w, at + 6);
-        let n = well::count_at(w, q as usize);
-        let o = 256 * (q as usize);
+        let q = PageNo(field::get2(w, at + 6));
+        let n = well::count_at(w, q.0 as usize);
+        let o = 256 * (q.0 as usize);
         let found = stray_in(&w[o..o + 256], n, q, i);
         if let Stray::At {
             want: _,
@@ -98,23 +103,23 @@ fn stray_leaf(w: &[u8]) -> Stray
 }
 
 // The base page of the leaf on page p, 0 where there is no leaf.
-fn base_of(w: &[u8], p: u16) -> u16
+fn base_of(w: &[u8], p: PageNo) -> PageNo
     requires { ⌜ InForm (now w) ⌝ }
-    ensures { λ r. ⌜ r ≡ baseOf p (leavesOf (pages (now (w .entry)))) ⌝ }
+    ensures { λ r. ⌜ r .0 ≡ baseOf (p .0) (leavesOf (pages (now (w .entry)))) ⌝ }
 {
     let mut at: usize = 16;
     let mut left = well::count_at(w, 0);
     while 0 < left {
-        let q = field::get2(w, at + 6);
-        let n = well::count_at(w, q as usize);
-        let o = 256 * (q as usize);
+        let q = PageNo(field::get2(w, at + 6));
+        let n = well::count_at(w, q.0 as usize);
+        let o = 256 * (q.0 as usize);
         if points_to(&w[o..o + 256], n, p) {
             return q;
         }
         at += 8;
         left -= 1;
     }
-    0
+    PageNo(0)
 }
 
 // The order unit: the first misplaced leaf is moved to its place, or swapped with the leaf there.
@@ -125,7 +130,7 @@ pub fn choose_order(w: &[u8]) -> Choice
     let Stray::At { want, base, page } = stray_leaf(w) else {
         return choice::nothing();
     };
-    if choice::empty_at(w, want as usize) {
+    if choice::empty_at(w, want) {
         return choice::moving(base, page, want);
     }
     let other = base_of(w, want);

@@ -9,6 +9,7 @@ ghost use Rattle.log.specs.Log.{beginOk, readBegin};
 ghost use Rattle.log.specs.Steps.{stepOf};
 ghost use Rattle.unit.specs.Next.{stepSize, room};
 ghost use Rattle.unit.specs.Room.{isClose, Inside};
+use field::UnitNo;
 use log::kind;
 use log::steps;
 use log::steps::Planned;
@@ -35,7 +36,7 @@ fn step_size(w: &[u8], s: Planned) -> usize
     ensures { λ r. ⌜ (r ≡ stepSize (now (w .entry)) (stepOf s)) × (r ≤ 1048580) ⌝ }
 {
     match s {
-        Planned::Out { org, dest: _ } => out_size(well::count_at(w, org as usize)),
+        Planned::Out { org, dest: _ } => out_size(well::count_at(w, org.0 as usize)),
         Planned::In {
             org: _,
             dest: _,
@@ -73,9 +74,9 @@ fn closes(s: Planned) -> bool
 }
 
 // What remains of the unit whose begin record stands at the front of m, where `done` of its steps are done.
-pub fn remaining(w: &[u8], m: &[u8], unit: u32, done: usize) -> Rest
-    requires { ⌜ (length (now w) ≡ 16384) × (44 ≤ length (now m)) × (beginOk (readBegin unit (now m)) ≡ true) × (done < length (plan (readBegin unit (now m)))) ⌝ }
-    ensures { λ r. ⌜ (r .bytes ≡ room (now (w .entry)) (drop done (plan (readBegin unit (now (m .entry)))))) × (r .steps ≡ length (drop done (plan (readBegin unit (now (m .entry)))))) ⌝ }
+pub fn remaining(w: &[u8], m: &[u8], unit: UnitNo, done: usize) -> Rest
+    requires { ⌜ (length (now w) ≡ 16384) × (44 ≤ length (now m)) × (beginOk (readBegin (unit .0) (now m)) ≡ true) × (done < length (plan (readBegin (unit .0) (now m)))) ⌝ }
+    ensures { λ r. ⌜ (r .bytes ≡ room (now (w .entry)) (drop done (plan (readBegin (unit .0) (now (m .entry)))))) × (r .steps ≡ length (drop done (plan (readBegin (unit .0) (now (m .entry)))))) ⌝ }
 {
     let mut bytes: usize = 0;
     let mut i = done;

@@ -34,7 +34,8 @@ same-length c = search needs
 returns : tie.Need-returns
 unfolding recordOf beginOf
 returns c =
-    let a = c .before .before .before .before .before .before .before .before .before in rw (← (a .pre .2), ← (a .pre .3)) (c .before .before .put-begin .ensures)
+    let a = c .before .before .before .before .before .before .before .before .before .before in
+    rw (← (a .pre .2), ← (a .pre .3)) (c .before .before .put-begin .ensures)
 
 pub put-lists-spec : {M : Type 1} → statement M
 put-lists-spec =

@@ -11,7 +11,7 @@ use Rattle.recovering.proofs.none_newer.Statement.{statement}
 use Rattle.recovering.proofs.none_newer.Tie as tie
 
 abbrev Inv-loop : tie.InvT-loop
-Inv-loop store last p₀ p = (p ≤ 64) × (noneNewer last (pages store) ≡ noneNewer last (rowsOf 256 (64 - p) (drop (256 * p) store)))
+Inv-loop store last p₀ p = (p ≤ 64) × (noneNewer (last .0) (pages store) ≡ noneNewer (last .0) (rowsOf 256 (64 - p) (drop (256 * p) store)))
 
 abbrev μ-loop : tie.MeasureT-loop
 μ-loop store last p₀ p = 64 - p
@@ -38,7 +38,10 @@ loop-less : tie.Need-loop-less Inv-loop μ-loop
 loop-less c = omega arith
 
 loop-again : tie.Need-loop-again Inv-loop μ-loop
-loop-again c = (omega arith, search newer-more!)
+loop-again c =
+    let g = c .before .before in
+    let l = g .before .before in
+    (omega arith, newer-more! _ (l .loop .p) _ (l .loop .inv .1) _ (g .get4 .ensures) (g .before .loop-test .taken) (c .if1 .left))
 
 returns-2 : tie.Need-returns-2 Inv-loop μ-loop
 returns-2 c = search newer-end!

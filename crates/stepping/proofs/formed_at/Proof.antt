@@ -4,8 +4,14 @@ use borrow.Author.Needs.{needs}
 use Rattle.stepping.proofs.formed_at.Statement.{statement}
 use Rattle.stepping.proofs.formed_at.Tie as tie
 
+cast-at : tie.Need-cast-at
+cast-at c = search needs
+
 mul-at : tie.Need-mul-at
 mul-at c = search needs
+
+cast-formed : tie.Need-cast-formed
+cast-formed c = search needs
 
 add-formed : tie.Need-add-formed
 add-formed c = search needs
@@ -29,7 +35,9 @@ pub formed-at-spec : {M : Type 1} → statement M
 formed-at-spec =
     tie.close
     (tie.spec
+    cast-at
     mul-at
+    cast-formed
     add-formed
     sub-formed
     part-formed-start

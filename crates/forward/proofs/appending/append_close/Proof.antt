@@ -24,17 +24,17 @@ returns : tie.Need-returns
 returns c =
     let k = c .before .before .before .before in
     let a = k .before .before in
-    close-stopped (a .args .work .now) (unit-open k) (a .args .unit) (a .pre .3) _ (c .before .admitted .ensures) (c .if1 .taken)
+    close-stopped (a .args .work .now) (unit-open k) (a .args .unit .0) (a .pre .3) _ (c .before .admitted .ensures) (c .if1 .taken)
 
-add-put-end : tie.Need-add-put-end
-add-put-end c = let t = tested-ok _ _ (sym (c .before .before .before .admitted .ensures) ∙ c .before .before .if1 .left) in record { fits = omega (arith, t .1) }
+add-t14 : tie.Need-add-t14
+add-t14 c = let t = tested-ok _ _ (sym (c .before .before .before .admitted .ensures) ∙ c .before .before .if1 .left) in record { fits = omega (arith, t .1) }
 
 put-end-requires : tie.Need-put-end-requires
 put-end-requires c κs =
     let t = c .before .before in
     let k = t .before .before .before .before in
     let a = k .before .before in
-    (omega arith, omega (arith, a .pre .1, close-room (a .args .work .now) (unit-open k) (a .args .unit) (a .pre .3) (sym (t .before .admitted .ensures) ∙ t .if1 .left)))
+    (omega arith, omega (arith, a .pre .1, close-room (a .args .work .now) (unit-open k) (a .args .unit .0) (a .pre .3) (sym (t .before .admitted .ensures) ∙ t .if1 .left)))
 
 same-length-3 : tie.Need-same-length-3
 same-length-3 c = search needs
@@ -47,7 +47,7 @@ returns-2 c =
     let t = c .before .before .before .before .before in
     let k = t .before .before .before .before in
     let a = k .before .before in
-    close-goes (a .args .work .now) (unit-open k) (a .args .unit) (a .pre .3) _ (t .before .admitted .ensures) (t .if1 .left) _ (c .before .before .put-end .ensures)
+    close-goes (a .args .work .now) (unit-open k) (a .args .unit .0) (a .pre .3) _ (t .before .admitted .ensures) (t .if1 .left) _ (c .before .before .put-end .ensures)
 
 pub append-close-spec : {M : Type 1} → statement M
 append-close-spec =
@@ -57,7 +57,7 @@ append-close-spec =
     same-length
     same-length-2
     returns
-    add-put-end
+    add-t14
     put-end-requires
     same-length-3
     same-length-4

@@ -14,7 +14,7 @@ unit-open : (c : tie.After-slice-known2) → Stands (c .before .before .args .lo
 unit-open c = stands (c .before .before .args .log .now) (c .before .before .args .w) (λ i. omega (arith, c .slice-known2 .given i)) (c .before .before .pre .2)
 
 -- the unit's next step changes a leaf page
-placed : (c : tie.After-slice-known2) → Leafy (c .before .before .args .dest)
+placed : (c : tie.After-slice-known2) → Leafy (c .before .before .args .dest .0)
 placed c = step-keeps (unit-open c) _ (c .before .before .pre .3)
 
 -- the records of its LO stand in the log
@@ -22,7 +22,7 @@ inside : (c : tie.After-source-at) → c .source-at .result + 20 + 16 * c .befor
 inside c =
     let k = c .before .before in
     let a = k .before .before in
-    omega (arith, in-inside (a .args .work .now) (unit-open k) (a .args .org) (a .args .dest) (a .args .back) (a .pre .3) _ _ (c .before .source-rows .ensures) (c .source-at .ensures), a .pre .1)
+    omega (arith, in-inside (a .args .work .now) (unit-open k) (a .args .org .0) (a .args .dest .0) (a .args .back) (a .pre .3) _ _ (c .before .source-rows .ensures) (c .source-at .ensures), a .pre .1)
 
 source-rows-requires : tie.Need-source-rows-requires
 source-rows-requires c κs = search needs
@@ -57,13 +57,13 @@ can-bring-in-requires c κs =
     let k = n .before .before in
     let a = k .before .before in
     let s = unit-open k in
-    let some-rows = in-some (a .args .work .now) s (a .args .org) (a .args .dest) (a .args .back) (a .pre .3) _ _ (n .before .source-rows .ensures) (n .source-at .ensures) in (
+    let some-rows = in-some (a .args .work .now) s (a .args .org .0) (a .args .dest .0) (a .args .back) (a .pre .3) _ _ (n .before .source-rows .ensures) (n .source-at .ensures) in (
       (a .pre .0, omega (arith, placed k .1)),
       (
         some-rows .0,
         some-rows .1,
-        in-long (a .args .work .now) s (a .args .org) (a .args .dest) (a .args .back) (a .pre .3) _ _ (n .before .source-rows .ensures) (n .source-at .ensures),
-        in-order (a .args .work .now) s (a .args .org) (a .args .dest) (a .args .back) (a .pre .3) _ _ (n .before .source-rows .ensures) (n .source-at .ensures),
+        in-long (a .args .work .now) s (a .args .org .0) (a .args .dest .0) (a .args .back) (a .pre .3) _ _ (n .before .source-rows .ensures) (n .source-at .ensures),
+        in-order (a .args .work .now) s (a .args .org .0) (a .args .dest .0) (a .args .back) (a .pre .3) _ _ (n .before .source-rows .ensures) (n .source-at .ensures),
       ),
     )
 
@@ -79,7 +79,7 @@ returns c =
     let n = z .before .before .before .before in
     let k = n .before .before in
     let a = k .before .before in
-    in-refused (a .args .work .now) (unit-open k) (a .args .org) (a .args .dest) (a .args .back) (a .pre .3) _ _ (n .before .source-rows .ensures) (n .source-at .ensures) _ (z .can-bring-in .ensures) (c .if1 .taken)
+    in-refused (a .args .work .now) (unit-open k) (a .args .org .0) (a .args .dest .0) (a .args .back) (a .pre .3) _ _ (n .before .source-rows .ensures) (n .source-at .ensures) _ (z .can-bring-in .ensures) (c .if1 .taken)
 
 admitted-requires : tie.Need-admitted-requires
 admitted-requires c κs = search needs
@@ -97,10 +97,10 @@ returns-2 c =
     let n = z .before .before .before .before in
     let k = n .before .before in
     let a = k .before .before in
-    in-stopped (a .args .work .now) (unit-open k) (a .args .org) (a .args .dest) (a .args .back) (a .pre .3) _ _ (n .before .source-rows .ensures) (n .source-at .ensures) _ (z .can-bring-in .ensures) (e .if1 .left) _ (c .before .admitted .ensures) (c .if2 .taken)
+    in-stopped (a .args .work .now) (unit-open k) (a .args .org .0) (a .args .dest .0) (a .args .back) (a .pre .3) _ _ (n .before .source-rows .ensures) (n .source-at .ensures) _ (z .can-bring-in .ensures) (e .if1 .left) _ (c .before .admitted .ensures) (c .if2 .taken)
 
-add-n : tie.Need-add-n
-add-n c = let t = tested-ok _ _ (sym (c .before .before .admitted .ensures) ∙ c .before .if2 .left) in record { fits = omega (arith, t .1) }
+add-t25 : tie.Need-add-t25
+add-t25 c = let t = tested-ok _ _ (sym (c .before .before .admitted .ensures) ∙ c .before .if2 .left) in record { fits = omega (arith, t .1) }
 
 sub-bring-in : tie.Need-sub-bring-in
 sub-bring-in c = search needs
@@ -119,13 +119,13 @@ bring-in-requires c κs =
     let k = n .before .before in
     let a = k .before .before in
     let s = unit-open k in
-    let some-rows = in-some (a .args .work .now) s (a .args .org) (a .args .dest) (a .args .back) (a .pre .3) _ _ (n .before .source-rows .ensures) (n .source-at .ensures) in (
+    let some-rows = in-some (a .args .work .now) s (a .args .org .0) (a .args .dest .0) (a .args .back) (a .pre .3) _ _ (n .before .source-rows .ensures) (n .source-at .ensures) in (
       (a .pre .0, omega (arith, placed k .1)),
       (
         some-rows .0,
         some-rows .1,
-        in-long (a .args .work .now) s (a .args .org) (a .args .dest) (a .args .back) (a .pre .3) _ _ (n .before .source-rows .ensures) (n .source-at .ensures),
-        in-order (a .args .work .now) s (a .args .org) (a .args .dest) (a .args .back) (a .pre .3) _ _ (n .before .source-rows .ensures) (n .source-at .ensures),
+        in-long (a .args .work .now) s (a .args .org .0) (a .args .dest .0) (a .args .back) (a .pre .3) _ _ (n .before .source-rows .ensures) (n .source-at .ensures),
+        in-order (a .args .work .now) s (a .args .org .0) (a .args .dest .0) (a .args .back) (a .pre .3) _ _ (n .before .source-rows .ensures) (n .source-at .ensures),
       ),
     )
 
@@ -135,7 +135,7 @@ put-in-requires c κs =
     let n = t .before .before .before .before .before .before .before .before .before in
     let k = n .before .before in
     let a = k .before .before in
-    (omega arith, omega (arith, a .pre .1, in-room (a .args .work .now) (unit-open k) (a .args .org) (a .args .dest) (a .args .back) (a .pre .3) (sym (t .before .admitted .ensures) ∙ t .if2 .left)))
+    (omega arith, omega (arith, a .pre .1, in-room (a .args .work .now) (unit-open k) (a .args .org .0) (a .args .dest .0) (a .args .back) (a .pre .3) (sym (t .before .admitted .ensures) ∙ t .if2 .left)))
 
 same-length-5 : tie.Need-same-length-5
 same-length-5 c = search needs
@@ -151,7 +151,7 @@ returns-3 c =
     let n = z .before .before .before .before in
     let k = n .before .before in
     let a = k .before .before in
-    in-goes (a .args .work .now) (unit-open k) (a .args .org) (a .args .dest) (a .args .back) (a .pre .3) _ _ (n .before .source-rows .ensures) (n .source-at .ensures) _ (z .can-bring-in .ensures) (e .if1 .left) _ (t .before .admitted .ensures) (t .if2 .left) _ _ _ (c .before .before .before .before .before .before .bring-in .ensures) (c .before .before .put-in .ensures)
+    in-goes (a .args .work .now) (unit-open k) (a .args .org .0) (a .args .dest .0) (a .args .back) (a .pre .3) _ _ (n .before .source-rows .ensures) (n .source-at .ensures) _ (z .can-bring-in .ensures) (e .if1 .left) _ (t .before .admitted .ensures) (t .if2 .left) _ _ _ (c .before .before .before .before .before .before .bring-in .ensures) (c .before .before .put-in .ensures)
 
 pub append-in-spec : {M : Type 1} → statement M
 append-in-spec =
@@ -174,7 +174,7 @@ append-in-spec =
     same-length-3
     same-length-4
     returns-2
-    add-n
+    add-t25
     sub-bring-in
     part-bring-in-start
     part-bring-in-end

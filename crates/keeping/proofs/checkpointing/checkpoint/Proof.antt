@@ -98,8 +98,8 @@ returns-7 c =
     (sym (k .knows .ensures) ∙ not-false _ (i .if4 .left)) (m .before .if5 .left) (sym (m .same-bytes .ensures) ∙ not-false _ (n .if6 .left)) _ _ _
     (c .kept7 .ensures) (c .before .if7 .taken)
 
-add-t16 : tie.Need-add-t16
-add-t16 c = search needs
+add-t17 : tie.Need-add-t17
+add-t17 c = search needs
 
 stays-requires : tie.Need-stays-requires
 stays-requires c κs = search needs
@@ -113,7 +113,7 @@ same-length-5 c = search needs
 returns-8 : tie.Need-returns-8
 returns-8 c =
     let p = c .before .before in
-    let o = p .before .before .before .before in
+    let o = p .before .before .before .before .before in
     let n = o .before .before in
     let m = n .before in
     let i = m .before .before .before in
@@ -149,7 +149,7 @@ checkpoint-spec =
     kept-requires-7
     same-length-4
     returns-7
-    add-t16
+    add-t17
     stays-requires
     new-log-requires
     same-length-5

@@ -47,11 +47,14 @@ kept-requires-5 c κs = search needs
 
 returns-5 : tie.Need-returns-5
 returns-5 c =
-    let i = c .before .before .before in
+    let i = c .before .before in
     let k = i .before in
     let l = k .before .before in
     flush-past _ _ _ _ _ _ _ _ _ (l .before .before .if1 .left) (l .before .if2 .left) (l .if3 .left) _ (k .before .scan-log .ensures)
     (sym (k .knows .ensures) ∙ not-false _ (i .if4 .left)) (c .kept5 .ensures) (c .before .if5 .taken)
+
+cast-t12 : tie.Need-cast-t12
+cast-t12 c = search needs
 
 number-at-requires : tie.Need-number-at-requires
 number-at-requires c κs = search needs
@@ -62,7 +65,7 @@ kept-requires-6 c κs = search needs
 returns-6 : tie.Need-returns-6
 returns-6 c =
     let m = c .before .before .before .before in
-    let i = m .before .before .before in
+    let i = m .before .before in
     let k = i .before in
     let l = k .before .before in
     flush-early _ _ _ _ _ _ _ _ _ (l .before .before .if1 .left) (l .before .if2 .left) (l .if3 .left) _ (k .before .scan-log .ensures)
@@ -81,7 +84,7 @@ returns-7 : tie.Need-returns-7
 returns-7 c =
     let o = c .before .before .before in
     let m = o .before .before .before .before .before in
-    let i = m .before .before .before in
+    let i = m .before .before in
     let k = i .before in
     let l = k .before .before in
     flush-all _ _ _ _ _ _ _ _ _ (l .before .before .if1 .left) (l .before .if2 .left) (l .if3 .left) _ (k .before .scan-log .ensures)
@@ -104,6 +107,7 @@ flush-spec =
     returns-4
     kept-requires-5
     returns-5
+    cast-t12
     number-at-requires
     kept-requires-6
     returns-6

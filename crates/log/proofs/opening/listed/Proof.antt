@@ -9,7 +9,7 @@ use Rattle.log.proofs.opening.listed.Statement.{statement}
 use Rattle.log.proofs.opening.listed.Tie as tie
 
 abbrev Inv-loop : tie.InvT-loop
-Inv-loop m p start n at₀ left₀ at left = (left ≤ n) × (at + 2 * left ≤ length m) × (listed p (readFields n (drop start m)) ≡ listed p (readFields left (drop at m)))
+Inv-loop m p start n at₀ left₀ at left = (left ≤ n) × (at + 2 * left ≤ length m) × (listed (p .0) (readFields n (drop start m)) ≡ listed (p .0) (readFields left (drop at m)))
 
 abbrev μ-loop : tie.MeasureT-loop
 μ-loop m p start n at₀ left₀ at left = left

@@ -17,12 +17,12 @@ add-t3 c = omega arith
 add-t4 : tie.Need-add-t4
 add-t4 c = search needs
 
-add-t5 : tie.Need-add-t5
-add-t5 c = search needs
+add-t6 : tie.Need-add-t6
+add-t6 c = search needs
 
 returns : tie.Need-returns
 unfolding begun lengthOf kindAt kinds
 returns c = rw (c .before .before .before .size-of .ensures)
 
 pub begun-spec : {M : Type 1} → statement M
-begun-spec = tie.close (tie.spec size-of-requires add-t3 add-t4 add-t5 returns)
+begun-spec = tie.close (tie.spec size-of-requires add-t3 add-t4 add-t6 returns)

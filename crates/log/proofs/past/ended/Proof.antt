@@ -10,12 +10,12 @@ use Rattle.log.proofs.past.ended.Tie as tie
 size-of-requires : tie.Need-size-of-requires
 size-of-requires c κs = search needs
 
-add-t4 : tie.Need-add-t4
-unfolding lengthOf kindAt kinds
-add-t4 c = omega arith
-
 add-t5 : tie.Need-add-t5
-add-t5 c = search needs
+unfolding lengthOf kindAt kinds
+add-t5 c = omega arith
+
+add-t6 : tie.Need-add-t6
+add-t6 c = search needs
 
 known-after-requires : tie.Need-known-after-requires
 known-after-requires c κs = search needs
@@ -30,4 +30,4 @@ returns c = rw (c .before .before .before .before .size-of .ensures, c .before .
 pub ended-spec : {M : Type 1} → statement M
 ended-spec =
     tie.close
-    (tie.spec size-of-requires add-t4 add-t5 known-after-requires lk-after-requires returns)
+    (tie.spec size-of-requires add-t5 add-t6 known-after-requires lk-after-requires returns)

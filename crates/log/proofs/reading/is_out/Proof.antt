@@ -56,7 +56,7 @@ same-at-requires c κs = omega arith
 
 returns-6 : tie.Need-returns-6
 unfolding lengthOf kindAt kinds
-returns-6 c = let a = c .before .before .before .before .before .before .before .before .before .before .before .before .before .before .before in let k : a .args .n ≤ 4294967295 = omega arith in let h : 20 + 16 * c .before .before .before .before .before .before .before .before .before .before .before .get2 .result ≤ length (a .args .m .now) = omega arith in search (out-whole! (a .args .m .now) (a .args .n) (a .args .org) (a .args .dest) (c .before .before .before .before .before .before .before .before .before .before .before .get2 .result) (c .before .before .before .before .before .before .before .before .before .before .before .get2 .ensures) (c .before .before .before .before .before .before .before .before .before .before .before .before .before .size-of .result) (c .before .before .before .before .before .before .before .before .before .before .before .before .before .size-of .ensures) (c .before .before .before .before .before .before .records-ascend .result) (c .before .before .before .before .before .before .records-ascend .ensures) k h)
+returns-6 c = let a = c .before .before .before .before .before .before .before .before .before .before .before .before .before .before .before in let k : a .args .n .0 ≤ 4294967295 = omega arith in let h : 20 + 16 * c .before .before .before .before .before .before .before .before .before .before .before .get2 .result ≤ length (a .args .m .now) = omega arith in search (out-whole! (a .args .m .now) (a .args .n .0) (a .args .org .0) (a .args .dest .0) (c .before .before .before .before .before .before .before .before .before .before .before .get2 .result) (c .before .before .before .before .before .before .before .before .before .before .before .get2 .ensures) (c .before .before .before .before .before .before .before .before .before .before .before .before .before .size-of .result) (c .before .before .before .before .before .before .before .before .before .before .before .before .before .size-of .ensures) (c .before .before .before .before .before .before .records-ascend .result) (c .before .before .before .before .before .before .records-ascend .ensures) k h)
 
 pub is-out-spec : {M : Type 1} → statement M
 is-out-spec =

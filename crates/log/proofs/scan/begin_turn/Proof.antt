@@ -12,11 +12,11 @@ lost-requires c κs = search needs
 returns : tie.Need-returns
 returns c = begin-last _ (c .before .before .before .before .args .m .now) _ (c .lost .ensures) (c .before .if1 .taken)
 
-add-is-begin : tie.Need-add-is-begin
-add-is-begin c = search needs
+add-t4 : tie.Need-add-t4
+add-t4 c = search needs
 
-add-is-begin-2 : tie.Need-add-is-begin-2
-add-is-begin-2 c = search needs
+add-t6 : tie.Need-add-t6
+add-t6 c = search needs
 
 is-begin-requires : tie.Need-is-begin-requires
 is-begin-requires c κs = search needs
@@ -28,7 +28,7 @@ returns-2 : tie.Need-returns-2
 returns-2 c = lost-pick _ _ _ _ (c .lost2 .ensures) (c .before .before .is-begin .ensures) (c .before .if2 .taken)
 
 begun-requires : tie.Need-begun-requires
-begun-requires c κs = let a = c .before .before .before .before .before .before .before in let r = begin-room _ (a .args .m .now) _ (c .if2 .left) _ (c .before .is-begin .ensures) in let u : a .args .w .unit < 4294967295 = omega (arith, c .before .before .before .before .if1 .left) in let k : a .args .w .at + 44 < 18446744073709551616 = omega (arith, r) in (a .pre .0, u, k)
+begun-requires c κs = let a = c .before .before .before .before .before .before .before in let r = begin-room _ (a .args .m .now) _ (c .if2 .left) _ (c .before .is-begin .ensures) in let u : a .args .w .unit .0 < 4294967295 = omega (arith, c .before .before .before .before .if1 .left) in let k : a .args .w .at + 44 < 18446744073709551616 = omega (arith, r) in (a .pre .0, u, k)
 
 returns-3 : tie.Need-returns-3
 returns-3 c = on-pick _ _ _ _ (c .begun .ensures) (c .before .before .is-begin .ensures) (c .before .if2 .left)
@@ -39,8 +39,8 @@ begin-turn-spec =
     (tie.spec
     lost-requires
     returns
-    add-is-begin
-    add-is-begin-2
+    add-t4
+    add-t6
     is-begin-requires
     lost-requires-2
     returns-2

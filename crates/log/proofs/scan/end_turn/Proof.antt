@@ -7,8 +7,8 @@ use borrow.Author.Needs.{needs}
 use Rattle.log.proofs.scan.end_turn.Statement.{statement}
 use Rattle.log.proofs.scan.end_turn.Tie as tie
 
-add-is-end : tie.Need-add-is-end
-add-is-end c = search needs
+add-t6 : tie.Need-add-t6
+add-t6 c = search needs
 
 is-end-requires : tie.Need-is-end-requires
 is-end-requires c κs = search needs
@@ -29,4 +29,4 @@ returns-2 c = on-pick _ _ _ _ (c .ended .ensures) (c .before .before .is-end .en
 
 pub end-turn-spec : {M : Type 1} → statement M
 end-turn-spec =
-    tie.close (tie.spec add-is-end is-end-requires lost-requires returns ended-requires returns-2)
+    tie.close (tie.spec add-t6 is-end-requires lost-requires returns ended-requires returns-2)

@@ -8,7 +8,7 @@ lost-requires : tie.Need-lost-requires
 lost-requires c κs = search needs
 
 returns : tie.Need-returns
-returns c = finish-off (c .before .before .before .before .args .l .now) (c .before .before .before .before .args .w) (c .before .before .before .before .args .e) _ (c .lost .ensures) (c .before .if1 .taken)
+returns c = let a = c .before .before .before .before .before in finish-off (a .args .l .now) (a .args .w) (a .args .e) _ (c .lost .ensures) (c .before .if1 .taken)
 
 sub-zeros-long : tie.Need-sub-zeros-long
 sub-zeros-long c = search needs
@@ -26,10 +26,14 @@ lost-requires-2 : tie.Need-lost-requires-2
 lost-requires-2 c κs = search needs
 
 returns-2 : tie.Need-returns-2
-returns-2 c = finish-bad (c .before .before .before .before .before .before .before .args .l .now) (c .before .before .before .before .before .before .before .args .w) (c .before .before .before .before .before .before .before .args .e) _ (c .lost2 .ensures) _ (c .before .before .zeros-long .ensures) (c .before .if2 .taken)
+returns-2 c =
+    let a = c .before .before .before .before .before .before .before .before in
+    finish-bad (a .args .l .now) (a .args .w) (a .args .e) _ (c .lost2 .ensures) _ (c .before .before .zeros-long .ensures) (c .before .if2 .taken)
 
 returns-3 : tie.Need-returns-3
-returns-3 c = finish-on (c .before .before .before .before .before .before .args .l .now) (c .before .before .before .before .before .before .args .w) (c .before .before .before .before .before .before .args .e) _ (c .before .before .before .if1 .left) (c .before .zeros-long .ensures) (c .if2 .left)
+returns-3 c =
+    let a = c .before .before .before .before .before .before .before in
+    finish-on (a .args .l .now) (a .args .w) (a .args .e) _ (c .before .before .before .if1 .left) (c .before .zeros-long .ensures) (c .if2 .left)
 
 pub finish-spec : {M : Type 1} → statement M
 finish-spec =

@@ -11,8 +11,8 @@ use Rattle.log.proofs.scan.in_turn.Tie as tie
 source-rows-requires : tie.Need-source-rows-requires
 source-rows-requires c κs = search needs
 
-add-is-in : tie.Need-add-is-in
-add-is-in c = search needs
+add-t8 : tie.Need-add-t8
+add-t8 c = search needs
 
 is-in-requires : tie.Need-is-in-requires
 is-in-requires c κs = search needs
@@ -36,7 +36,7 @@ in-turn-spec =
     tie.close
     (tie.spec
     source-rows-requires
-    add-is-in
+    add-t8
     is-in-requires
     lost-requires
     returns

@@ -5,14 +5,14 @@ use mathlib.Core.Bool.{Bool, true, false}
 use borrow.Author.Tests.{eq-eqb, ne-eqb}
 use Rattle.field.specs.Test.{pick}
 use Rattle.field.proofs.Test.{pick-true, pick-false}
-use Rattle.log.specs.Scan.{noted}
+use Rattle.log.specs.Scan.{logNo, noted}
 use Rattle.log.specs.declared.scan.Mark.{Mark}
 use borrow.Author.Needs.{needs}
 use Rattle.log.proofs.scan.noted.Statement.{statement}
 use Rattle.log.proofs.scan.noted.Tie as tie
 
 mark : Bool → ℕ → Mark
-mark b n = record { ends = b; number = n }
+mark b n = record { ends = b; number = logNo n }
 
 -- a mark that is kept as it is: its number where it is set
 kept : (b : Bool) (n : ℕ) → mark b (pick b n 0) ≡ pick b (mark b n) (mark false 0)
@@ -27,7 +27,7 @@ returns : tie.Need-returns
 unfolding noted mark
 returns c =
     let e = c .before .before .args .e in
-    ap (mark (e .ends)) (c .number-if .ensures) ∙ kept (e .ends) (e .number) ∙ ap (pick (e .ends) e) (sym (pick-false _ _ _ (ne-eqb _ _ (c .before .if1 .taken))))
+    ap (mark (e .ends)) (c .number-if .ensures) ∙ kept (e .ends) (e .number .0) ∙ ap (pick (e .ends) e) (sym (pick-false _ _ _ (ne-eqb _ _ (c .before .if1 .taken))))
 
 returns-2 : tie.Need-returns-2
 unfolding noted

@@ -5,8 +5,8 @@ use borrow.Author.Needs.{needs}
 use Rattle.log.proofs.scan.out_turn.Statement.{statement}
 use Rattle.log.proofs.scan.out_turn.Tie as tie
 
-add-is-out : tie.Need-add-is-out
-add-is-out c = search needs
+add-t6 : tie.Need-add-t6
+add-t6 c = search needs
 
 is-out-requires : tie.Need-is-out-requires
 is-out-requires c κs = search needs
@@ -28,4 +28,4 @@ returns-2 c = on-pick _ _ _ _ (c .taken-out .ensures) (c .before .before .is-out
 pub out-turn-spec : {M : Type 1} → statement M
 out-turn-spec =
     tie.close
-    (tie.spec add-is-out is-out-requires lost-requires returns taken-out-requires returns-2)
+    (tie.spec add-t6 is-out-requires lost-requires returns taken-out-requires returns-2)

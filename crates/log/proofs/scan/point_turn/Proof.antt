@@ -7,8 +7,8 @@ use borrow.Author.Needs.{needs}
 use Rattle.log.proofs.scan.point_turn.Statement.{statement}
 use Rattle.log.proofs.scan.point_turn.Tie as tie
 
-add-is-modify : tie.Need-add-is-modify
-add-is-modify c = search needs
+add-t7 : tie.Need-add-t7
+add-t7 c = search needs
 
 is-modify-requires : tie.Need-is-modify-requires
 is-modify-requires c κs = search needs
@@ -30,4 +30,4 @@ returns-2 c = on-pick _ _ _ _ (c .pointed .ensures) (c .before .before .is-modif
 pub point-turn-spec : {M : Type 1} → statement M
 point-turn-spec =
     tie.close
-    (tie.spec add-is-modify is-modify-requires lost-requires returns pointed-requires returns-2)
+    (tie.spec add-t7 is-modify-requires lost-requires returns pointed-requires returns-2)

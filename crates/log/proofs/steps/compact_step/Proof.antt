@@ -22,7 +22,7 @@ skipped-requires : tie.Need-skipped-requires
 skipped-requires c κs = search needs
 
 sub-pairs : tie.Need-sub-pairs
-sub-pairs c = omega (arith, is-compact (c .before .before .before .before .before .before .args .m .now) (c .before .before .before .before .before .before .args .unit) (c .before .before .before .before .before .before .pre .1) (c .before .before .before .before .before .before .pre .2) .few, is-compact (c .before .before .before .before .before .before .args .m .now) (c .before .before .before .before .before .before .args .unit) (c .before .before .before .before .before .before .pre .1) (c .before .before .before .before .before .before .pre .2) .many)
+sub-pairs c = omega (arith, is-compact (c .before .before .before .before .before .before .args .m .now) (c .before .before .before .before .before .before .args .unit .0) (c .before .before .before .before .before .before .pre .1) (c .before .before .before .before .before .before .pre .2) .few, is-compact (c .before .before .before .before .before .before .args .m .now) (c .before .before .before .before .before .before .args .unit .0) (c .before .before .before .before .before .before .pre .1) (c .before .before .before .before .before .before .pre .2) .many)
 
 mul-pairs : tie.Need-mul-pairs
 mul-pairs c = search needs
@@ -37,20 +37,20 @@ add-get2-2 : tie.Need-add-get2-2
 add-get2-2 c = search needs
 
 get2-requires-4 : tie.Need-get2-requires-4
-get2-requires-4 c κs = omega (arith, is-compact (c .before .before .before .before .before .before .before .args .m .now) (c .before .before .before .before .before .before .before .args .unit) (c .before .before .before .before .before .before .before .pre .1) (c .before .before .before .before .before .before .before .pre .2) .few, is-compact (c .before .before .before .before .before .before .before .args .m .now) (c .before .before .before .before .before .before .before .args .unit) (c .before .before .before .before .before .before .before .pre .1) (c .before .before .before .before .before .before .before .pre .2) .many)
+get2-requires-4 c κs = omega (arith, is-compact (c .before .before .before .before .before .before .before .args .m .now) (c .before .before .before .before .before .before .before .args .unit .0) (c .before .before .before .before .before .before .before .pre .1) (c .before .before .before .before .before .before .before .pre .2) .few, is-compact (c .before .before .before .before .before .before .before .args .m .now) (c .before .before .before .before .before .before .before .args .unit .0) (c .before .before .before .before .before .before .before .pre .1) (c .before .before .before .before .before .before .before .pre .2) .many)
 
 gather-step-requires : tie.Need-gather-step-requires
 gather-step-requires c κs = search needs
 
 returns : tie.Need-returns
-returns c = let x : Compacts (c .before .before .before .before .before .before .before .before .before .args .m .now) = is-compact (c .before .before .before .before .before .before .before .before .before .args .m .now) (c .before .before .before .before .before .before .before .before .before .args .unit) (c .before .before .before .before .before .before .before .before .before .pre .1) (c .before .before .before .before .before .before .before .before .before .pre .2) in search (gathered! (c .before .before .before .before .before .before .before .before .before .args .m .now) (c .before .before .before .before .before .before .before .before .before .args .unit) (c .before .before .before .before .before .before .before .before .before .args .i) x)
+returns c = let x : Compacts (c .before .before .before .before .before .before .before .before .before .args .m .now) = is-compact (c .before .before .before .before .before .before .before .before .before .args .m .now) (c .before .before .before .before .before .before .before .before .before .args .unit .0) (c .before .before .before .before .before .before .before .before .before .pre .1) (c .before .before .before .before .before .before .before .before .before .pre .2) in search (gathered! (c .before .before .before .before .before .before .before .before .before .args .m .now) (c .before .before .before .before .before .before .before .before .before .args .unit .0) (c .before .before .before .before .before .before .before .before .before .args .i) x)
 
 add-j : tie.Need-add-j
-add-j c = omega (arith, is-compact (c .before .before .before .before .before .before .before .args .m .now) (c .before .before .before .before .before .before .before .args .unit) (c .before .before .before .before .before .before .before .pre .1) (c .before .before .before .before .before .before .before .pre .2) .few, is-compact (c .before .before .before .before .before .before .before .args .m .now) (c .before .before .before .before .before .before .before .args .unit) (c .before .before .before .before .before .before .before .pre .1) (c .before .before .before .before .before .before .before .pre .2) .many)
+add-j c = omega (arith, is-compact (c .before .before .before .before .before .before .before .args .m .now) (c .before .before .before .before .before .before .before .args .unit .0) (c .before .before .before .before .before .before .before .pre .1) (c .before .before .before .before .before .before .before .pre .2) .few, is-compact (c .before .before .before .before .before .before .before .args .m .now) (c .before .before .before .before .before .before .before .args .unit .0) (c .before .before .before .before .before .before .before .pre .1) (c .before .before .before .before .before .before .before .pre .2) .many)
 
 returns-2 : tie.Need-returns-2
 unfolding stepOf
-returns-2 c = let x : Compacts (c .before .before .before .before .before .before .before .before .args .m .now) = is-compact (c .before .before .before .before .before .before .before .before .args .m .now) (c .before .before .before .before .before .before .before .before .args .unit) (c .before .before .before .before .before .before .before .before .pre .1) (c .before .before .before .before .before .before .before .before .pre .2) in search (replaced! (c .before .before .before .before .before .before .before .before .args .m .now) (c .before .before .before .before .before .before .before .before .args .unit) (c .before .before .before .before .before .before .before .before .args .i) x)
+returns-2 c = let x : Compacts (c .before .before .before .before .before .before .before .before .args .m .now) = is-compact (c .before .before .before .before .before .before .before .before .args .m .now) (c .before .before .before .before .before .before .before .before .args .unit .0) (c .before .before .before .before .before .before .before .before .pre .1) (c .before .before .before .before .before .before .before .before .pre .2) in search (replaced! (c .before .before .before .before .before .before .before .before .args .m .now) (c .before .before .before .before .before .before .before .before .args .unit .0) (c .before .before .before .before .before .before .before .before .args .i) x)
 
 mul-get2-2 : tie.Need-mul-get2-2
 mul-get2-2 c = search needs
@@ -59,15 +59,15 @@ add-get2-3 : tie.Need-add-get2-3
 add-get2-3 c = search needs
 
 get2-requires-5 : tie.Need-get2-requires-5
-get2-requires-5 c κs = omega (arith, is-compact (c .before .before .before .before .before .before .before .before .before .args .m .now) (c .before .before .before .before .before .before .before .before .before .args .unit) (c .before .before .before .before .before .before .before .before .before .pre .1) (c .before .before .before .before .before .before .before .before .before .pre .2) .few, is-compact (c .before .before .before .before .before .before .before .before .before .args .m .now) (c .before .before .before .before .before .before .before .before .before .args .unit) (c .before .before .before .before .before .before .before .before .before .pre .1) (c .before .before .before .before .before .before .before .before .before .pre .2) .many)
+get2-requires-5 c κs = omega (arith, is-compact (c .before .before .before .before .before .before .before .before .before .args .m .now) (c .before .before .before .before .before .before .before .before .before .args .unit .0) (c .before .before .before .before .before .before .before .before .before .pre .1) (c .before .before .before .before .before .before .before .before .before .pre .2) .few, is-compact (c .before .before .before .before .before .before .before .before .before .args .m .now) (c .before .before .before .before .before .before .before .before .before .args .unit .0) (c .before .before .before .before .before .before .before .before .before .pre .1) (c .before .before .before .before .before .before .before .before .before .pre .2) .many)
 
 returns-3 : tie.Need-returns-3
 unfolding stepOf
-returns-3 c = let x : Compacts (c .before .before .before .before .before .before .before .before .before .before .args .m .now) = is-compact (c .before .before .before .before .before .before .before .before .before .before .args .m .now) (c .before .before .before .before .before .before .before .before .before .before .args .unit) (c .before .before .before .before .before .before .before .before .before .before .pre .1) (c .before .before .before .before .before .before .before .before .before .before .pre .2) in search (removed! (c .before .before .before .before .before .before .before .before .before .before .args .m .now) (c .before .before .before .before .before .before .before .before .before .before .args .unit) (c .before .before .before .before .before .before .before .before .before .before .args .i) x)
+returns-3 c = let x : Compacts (c .before .before .before .before .before .before .before .before .before .before .args .m .now) = is-compact (c .before .before .before .before .before .before .before .before .before .before .args .m .now) (c .before .before .before .before .before .before .before .before .before .before .args .unit .0) (c .before .before .before .before .before .before .before .before .before .before .pre .1) (c .before .before .before .before .before .before .before .before .before .before .pre .2) in search (removed! (c .before .before .before .before .before .before .before .before .before .before .args .m .now) (c .before .before .before .before .before .before .before .before .before .before .args .unit .0) (c .before .before .before .before .before .before .before .before .before .before .args .i) x)
 
 returns-4 : tie.Need-returns-4
 unfolding stepOf
-returns-4 c = let x : Compacts (c .before .before .before .before .before .before .before .before .before .args .m .now) = is-compact (c .before .before .before .before .before .before .before .before .before .args .m .now) (c .before .before .before .before .before .before .before .before .before .args .unit) (c .before .before .before .before .before .before .before .before .before .pre .1) (c .before .before .before .before .before .before .before .before .before .pre .2) in search (closed! (c .before .before .before .before .before .before .before .before .before .args .m .now) (c .before .before .before .before .before .before .before .before .before .args .unit) (c .before .before .before .before .before .before .before .before .before .args .i) x)
+returns-4 c = let x : Compacts (c .before .before .before .before .before .before .before .before .before .args .m .now) = is-compact (c .before .before .before .before .before .before .before .before .before .args .m .now) (c .before .before .before .before .before .before .before .before .before .args .unit .0) (c .before .before .before .before .before .before .before .before .before .pre .1) (c .before .before .before .before .before .before .before .before .before .pre .2) in search (closed! (c .before .before .before .before .before .before .before .before .before .args .m .now) (c .before .before .before .before .before .before .before .before .before .args .unit .0) (c .before .before .before .before .before .before .before .before .before .args .i) x)
 
 pub compact-step-spec : {M : Type 1} → statement M
 compact-step-spec =

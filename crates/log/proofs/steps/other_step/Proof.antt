@@ -16,7 +16,10 @@ byte-at-requires : tie.Need-byte-at-requires
 byte-at-requires c κs = search needs
 
 second-base-requires : tie.Need-second-base-requires
-second-base-requires c κs = let a = c .before .before .before .before .before in omega (arith, is-swap (a .args .m .now) (a .args .unit) (a .pre .1) (sym (c .before .byte-at .ensures .0) ∙ c .if1 .taken) .few)
+second-base-requires c κs = let a = c .before .before .before .before .before in omega (arith, is-swap (a .args .m .now) (a .args .unit .0) (a .pre .1) (sym (c .before .byte-at .ensures .0) ∙ c .if1 .taken) .few)
+
+add-get2 : tie.Need-add-get2
+add-get2 c = search needs
 
 get2-requires-3 : tie.Need-get2-requires-3
 get2-requires-3 c κs = search needs
@@ -44,6 +47,7 @@ other-step-spec =
     get2-requires-2
     byte-at-requires
     second-base-requires
+    add-get2
     get2-requires-3
     swap-step-requires
     returns

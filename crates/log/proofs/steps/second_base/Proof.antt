@@ -13,6 +13,9 @@ get2-requires c κs = search needs
 returns : tie.Need-returns
 returns c = search second-same!
 
+add-get2 : tie.Need-add-get2
+add-get2 c = search needs
+
 get2-requires-2 : tie.Need-get2-requires-2
 get2-requires-2 c κs = search needs
 
@@ -21,4 +24,4 @@ returns-2 c = search second-other!
 
 pub second-base-spec : {M : Type 1} → statement M
 second-base-spec =
-    tie.close (tie.spec byte-at-requires get2-requires returns get2-requires-2 returns-2)
+    tie.close (tie.spec byte-at-requires get2-requires returns add-get2 get2-requires-2 returns-2)

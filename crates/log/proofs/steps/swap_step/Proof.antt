@@ -27,7 +27,7 @@ returns-5 c = rw (c .if5 .taken)
 
 returns-6 : tie.Need-returns-6
 unfolding stepOf swapPlan
-returns-6 c = rw (c .if6 .taken)
+returns-6 c = rw (c .before .before .if6 .taken)
 
 returns-7 : tie.Need-returns-7
 unfolding stepOf

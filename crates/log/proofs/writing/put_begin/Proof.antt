@@ -47,7 +47,7 @@ same-length : tie.Need-same-length
 same-length c = search needs
 
 returns : tie.Need-returns
-returns c = let a = c .before .before .before .before .before .before .before .before .before .before .before .before .before .before .before .before .before .before .before .before .before .before .before .before .before .before .before in begin-written (a .args .s .now) (a .args .at) (a .args .n) (a .args .unit) (a .args .kind) (a .args .fill) (a .args .bases .now) (a .args .leaves .now) (a .args .dest) (a .pre .2) _ _ _ _ _ _ (c .before .before .before .before .before .before .before .before .before .before .before .before .before .before .before .before .before .before .before .before .before .before .put-unit .ensures) (c .before .before .before .before .before .before .before .before .before .before .before .before .before .before .before .before .before .before .put-counts .ensures) (c .before .before .before .before .before .before .before .before .before .before .before .before .before .before .put-fields .ensures) (c .before .before .before .before .before .before .before .before .before .before .put-fields2 .ensures) (c .before .before .before .before .before .before .put2 .ensures) (c .before .before .put22 .ensures)
+returns c = let a = c .before .before .before .before .before .before .before .before .before .before .before .before .before .before .before .before .before .before .before .before .before .before .before .before .before .before .before in begin-written (a .args .s .now) (a .args .at) (a .args .n .0) (a .args .unit .0) (a .args .kind) (a .args .fill) (a .args .bases .now) (a .args .leaves .now) (a .args .dest .0) (a .pre .2) _ _ _ _ _ _ (c .before .before .before .before .before .before .before .before .before .before .before .before .before .before .before .before .before .before .before .before .before .before .put-unit .ensures) (c .before .before .before .before .before .before .before .before .before .before .before .before .before .before .before .before .before .before .put-counts .ensures) (c .before .before .before .before .before .before .before .before .before .before .before .before .before .before .put-fields .ensures) (c .before .before .before .before .before .before .before .before .before .before .put-fields2 .ensures) (c .before .before .before .before .before .before .put2 .ensures) (c .before .before .put22 .ensures)
 
 pub put-begin-spec : {M : Type 1} → statement M
 put-begin-spec =

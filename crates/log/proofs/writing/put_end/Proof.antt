@@ -4,8 +4,8 @@ use borrow.Author.Needs.{needs}
 use Rattle.log.proofs.writing.put_end.Statement.{statement}
 use Rattle.log.proofs.writing.put_end.Tie as tie
 
-sub-put-unit : tie.Need-sub-put-unit
-sub-put-unit c = search needs
+earlier-requires : tie.Need-earlier-requires
+earlier-requires c κs = search needs
 
 put-unit-requires : tie.Need-put-unit-requires
 put-unit-requires c κs = search needs
@@ -14,7 +14,7 @@ same-length : tie.Need-same-length
 same-length c = search needs
 
 returns : tie.Need-returns
-returns c = let a = c .before .before .before .before .before in cc (encode-end (a .args .n) (a .args .unit))
+returns c = let a = c .before .before .before .before .before .before in cc (encode-end (a .args .n .0) (a .args .unit .0))
 
 pub put-end-spec : {M : Type 1} → statement M
-put-end-spec = tie.close (tie.spec sub-put-unit put-unit-requires same-length returns)
+put-end-spec = tie.close (tie.spec earlier-requires put-unit-requires same-length returns)

@@ -7,6 +7,9 @@ use borrow.Author.Needs.{needs}
 use Rattle.log.proofs.writing.put_mark.Statement.{statement}
 use Rattle.log.proofs.writing.put_mark.Tie as tie
 
+lead-requires : tie.Need-lead-requires
+lead-requires c κs = search needs
+
 sign-requires : tie.Need-sign-requires
 sign-requires c κs = search needs
 
@@ -23,8 +26,8 @@ same-length : tie.Need-same-length
 same-length c = simp length-set
 
 returns : tie.Need-returns
-returns c = let a = c .before .before in rw (c .sign .ensures) (set2 (a .args .s .now) (a .args .at) _ _ (a .pre .1))
+returns c = let a = c .before .before .before in rw (c .before .lead .ensures, c .sign .ensures) (set2 (a .args .s .now) (a .args .at) _ _ (a .pre .1))
 
 pub put-mark-spec : {M : Type 1} → statement M
 put-mark-spec =
-    tie.close (tie.spec sign-requires slice-write-s add-s slice-write-s-2 same-length returns)
+    tie.close (tie.spec lead-requires sign-requires slice-write-s add-s slice-write-s-2 same-length returns)

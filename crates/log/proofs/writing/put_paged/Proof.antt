@@ -8,8 +8,8 @@ use Rattle.log.proofs.writing.put_paged.Tie as tie
 length-of-requires : tie.Need-length-of-requires
 length-of-requires c κs = search needs
 
-sub-put-header : tie.Need-sub-put-header
-sub-put-header c = search needs
+earlier-requires : tie.Need-earlier-requires
+earlier-requires c κs = search needs
 
 put-header-requires : tie.Need-put-header-requires
 put-header-requires c κs = search needs
@@ -42,14 +42,14 @@ same-length : tie.Need-same-length
 same-length c = search needs
 
 returns : tie.Need-returns
-returns c = let a = c .before .before .before .before .before .before .before .before .before .before .before .before .before .before .before .before .before .before .before .before .before .before in cc (paged-puts (a .args .s .now) (a .args .at) (kindAt (a .args .k)) (a .args .rows) (a .args .n) (a .args .a) (a .args .b) (a .args .c) (a .pre .3))
+returns c = let a = c .before .before .before .before .before .before .before .before .before .before .before .before .before .before .before .before .before .before .before .before .before .before .before in cc (paged-puts (a .args .s .now) (a .args .at) (kindAt (a .args .k)) (a .args .rows) (a .args .n .0) (a .args .a .0) (a .args .b .0) (a .args .c) (a .pre .3))
 
 pub put-paged-spec : {M : Type 1} → statement M
 put-paged-spec =
     tie.close
     (tie.spec
     length-of-requires
-    sub-put-header
+    earlier-requires
     put-header-requires
     add-put2
     put2-requires

@@ -25,20 +25,17 @@ add-put2 c = search needs
 add-put2-2 : tie.Need-add-put2-2
 add-put2-2 c = search needs
 
-cast-put2 : tie.Need-cast-put2
-cast-put2 c = search needs
-
 put2-requires : tie.Need-put2-requires
 put2-requires c κs =
-    let a = c .before .before .before .before .before .before .before .before .before in
-    omega (arith, c .before .before .before .before .set-head .kept .0, base-whole (a .args .pg .now) (a .pre .0), base-room (a .args .pg .now) (a .pre .0))
+    let a = c .before .before .before .before .before .before .before .before in
+    omega (arith, c .before .before .before .set-head .kept .0, base-whole (a .args .pg .now) (a .pre .0), base-room (a .args .pg .now) (a .pre .0))
 
 same-length : tie.Need-same-length
 same-length c = search needs
 
 returns : tie.Need-returns
 returns c =
-    let a = c .before .before .before .before .before .before .before .before .before .before .before .before in
+    let a = c .before .before .before .before .before .before .before .before .before .before .before in
     cc (redirected-is (a .args .n .0) (a .args .i) (a .args .pg .now) (a .pre .0) (a .pre .1) (a .args .new .0))
 
 pub redirect-spec : {M : Type 1} → statement M
@@ -50,7 +47,6 @@ redirect-spec =
     mul-put2
     add-put2
     add-put2-2
-    cast-put2
     put2-requires
     same-length
     returns)

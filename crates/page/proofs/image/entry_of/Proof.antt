@@ -13,15 +13,12 @@ put4-requires c κs = search needs
 slice-aggregate-put2 : tie.Need-slice-aggregate-put2
 slice-aggregate-put2 c = search needs
 
-cast-put2 : tie.Need-cast-put2
-cast-put2 c = search needs
-
 put2-requires : tie.Need-put2-requires
 put2-requires c κs = search needs
 
 returns : tie.Need-returns
 returns c =
-    let a = c .before .before .before .before .before .before .before in
+    let a = c .before .before .before .before .before .before in
     cc (entry-is (a .args .key) (a .args .p .0))
 
 pub entry-of-spec : {M : Type 1} → statement M
@@ -31,6 +28,5 @@ entry-of-spec =
     slice-aggregate-put4
     put4-requires
     slice-aggregate-put2
-    cast-put2
     put2-requires
     returns)

@@ -24,11 +24,11 @@ sub-least c = search needs
 least-requires : tie.Need-least-requires
 least-requires c κs = search needs
 
-cast-entries-image : tie.Need-cast-entries-image
-cast-entries-image c = search needs
+cast-t10 : tie.Need-cast-t10
+cast-t10 c = search needs
 
-add-entries-image : tie.Need-add-entries-image
-add-entries-image c = search needs
+add-t11 : tie.Need-add-t11
+add-t11 c = search needs
 
 entries-image-requires : tie.Need-entries-image-requires
 entries-image-requires c κs =
@@ -57,7 +57,7 @@ base-image-spec =
     returns
     sub-least
     least-requires
-    cast-entries-image
-    add-entries-image
+    cast-t10
+    add-t11
     entries-image-requires
     returns-2)

@@ -13,7 +13,7 @@ use Rattle.tree.proofs.build.entries_image.Tie as tie
 
 abbrev Inv-loop : tie.InvT-loop
 Inv-loop sign records f step i p n image₀ at₀ k₀ image at k =
-    (k ≤ n) × (at ≡ i + step * k) × (image ≡ made sign 0 (zeroes 8) (entryRun f records step i p k))
+    (k ≤ n) × (at ≡ i + step * k) × (image ≡ made sign 0 (zeroes 8) (entryRun f records step i (p .0) k))
 
 abbrev μ-loop : tie.MeasureT-loop
 μ-loop sign records f step i p n image₀ at₀ k₀ image at k = n - k
@@ -44,15 +44,15 @@ add-t15 c = omega arith
 
 with-entry-requires : tie.Need-with-entry-requires Inv-loop μ-loop
 with-entry-requires c κs =
-    let l = c .before .before in
+    let l = c .before .before .before in
     let a = l .before .before .before in
     let small : l .loop .k < 30 = omega arith in
-    let n = image-count (a .args .sign) (a .args .f) (a .args .records .now) (a .args .step) (a .args .i) (a .args .p) (l .loop .k) small (l .loop .image) (l .loop .inv .2) in
-    (image-again (a .args .sign) (a .args .f) (a .args .records .now) (a .args .step) (a .args .i) (a .args .p) (l .loop .k) small (l .loop .image) (l .loop .inv .2), (omega arith, omega arith))
+    let n = image-count (a .args .sign) (a .args .f) (a .args .records .now) (a .args .step) (a .args .i) (a .args .p .0) (l .loop .k) small (l .loop .image) (l .loop .inv .2) in
+    (image-again (a .args .sign) (a .args .f) (a .args .records .now) (a .args .step) (a .args .i) (a .args .p .0) (l .loop .k) small (l .loop .image) (l .loop .inv .2), omega arith)
 
 add-at : tie.Need-add-at Inv-loop μ-loop
 add-at c =
-    let g = c .before .before in
+    let g = c .before .before .before in
     omega (arith, begins g, at-most (g .before .before .before .before .args .f) (g .before .loop .at) (g .before .before .before .before .pre .0))
 
 add-k : tie.Need-add-k Inv-loop μ-loop
@@ -63,14 +63,14 @@ loop-less c = omega arith
 
 loop-again : tie.Need-loop-again Inv-loop μ-loop
 loop-again c =
-    let g = c .before .before in
+    let g = c .before .before .before in
     let l = g .before in
     let a = l .before .before .before in
     let small : l .loop .k < 30 = omega arith in (
       omega arith,
       omega (arith, l .loop .inv .1, step-more (a .args .step) (l .loop .k)),
-      image-more (a .args .sign) (a .args .f) (a .args .records .now) (a .args .step) (a .args .i) (a .args .p) (l .loop .k) small (l .loop .image) (l .loop .inv .2)
-          (l .loop .at) (c .before .leaf-key .result) (c .with-entry .result) (l .loop .inv .1) (c .before .leaf-key .ensures) (c .with-entry .ensures),
+      image-more (a .args .sign) (a .args .f) (a .args .records .now) (a .args .step) (a .args .i) (a .args .p .0) (l .loop .k) small (l .loop .image) (l .loop .inv .2)
+          (l .loop .at) (c .before .before .leaf-key .result) (c .with-entry .result) (l .loop .inv .1) (c .before .before .leaf-key .ensures) (c .with-entry .ensures),
     )
 
 returns : tie.Need-returns Inv-loop μ-loop

@@ -33,8 +33,8 @@ part-repeat-in-start c = search needs
 part-repeat-in-end : tie.Need-part-repeat-in-end
 part-repeat-in-end c = search needs
 
-add-t18 : tie.Need-add-t18
-add-t18 c = search needs
+add-t16 : tie.Need-add-t16
+add-t16 c = search needs
 
 repeat-in-requires : tie.Need-repeat-in-requires
 repeat-in-requires c κs =
@@ -66,7 +66,7 @@ in-again-spec =
     sub-repeat-in
     part-repeat-in-start
     part-repeat-in-end
-    add-t18
+    add-t16
     repeat-in-requires
     same-length
     returns)

@@ -31,8 +31,8 @@ part-repeat-out-start c = search needs
 part-repeat-out-end : tie.Need-part-repeat-out-end
 part-repeat-out-end c = search needs
 
-add-t17 : tie.Need-add-t17
-add-t17 c = search needs
+add-t15 : tie.Need-add-t15
+add-t15 c = search needs
 
 repeat-out-requires : tie.Need-repeat-out-requires
 repeat-out-requires c κs = search needs
@@ -58,7 +58,7 @@ out-again-spec =
     sub-repeat-out
     part-repeat-out-start
     part-repeat-out-end
-    add-t17
+    add-t15
     repeat-out-requires
     same-length
     returns)

@@ -10,8 +10,8 @@ add-get4 c = search needs
 get4-requires : tie.Need-get4-requires
 get4-requires c κs = search needs
 
-add-t13 : tie.Need-add-t13
-add-t13 c = search needs
+add-t11 : tie.Need-add-t11
+add-t11 c = search needs
 
 repeat-modify-requires : tie.Need-repeat-modify-requires
 repeat-modify-requires c κs = search needs
@@ -26,4 +26,4 @@ returns c =
 
 pub point-again-spec : {M : Type 1} → statement M
 point-again-spec =
-    tie.close (tie.spec add-get4 get4-requires add-t13 repeat-modify-requires same-length returns)
+    tie.close (tie.spec add-get4 get4-requires add-t11 repeat-modify-requires same-length returns)

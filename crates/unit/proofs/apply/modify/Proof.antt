@@ -24,10 +24,10 @@ cast-i c = search needs
 
 redirect-at-requires : tie.Need-redirect-at-requires
 redirect-at-requires c κs =
-    let i = c .before .before .entry-at in
-    let e = c .before .before .before .before in
+    let i = c .before .before .before .entry-at in
+    let e = c .before .before .before .before .before in
     let t = e .before .can-modify in
-    (search needs, (modify-base _ _ _ _ _ (t .result) (t .ensures) (e .if1 .left), modify-inside _ _ _ _ _ (t .result) (t .ensures) (e .if1 .left) _ (i .ensures), search needs))
+    (search needs, (modify-base _ _ _ _ _ (t .result) (t .ensures) (e .if1 .left), modify-inside _ _ _ _ _ (t .result) (t .ensures) (e .if1 .left) _ (i .ensures)))
 
 same-length-2 : tie.Need-same-length-2
 same-length-2 c = search needs
@@ -37,8 +37,8 @@ returns-2 c = search modify-point
 
 remove-at-requires : tie.Need-remove-at-requires
 remove-at-requires c κs =
-    let i = c .before .before .entry-at in
-    let e = c .before .before .before .before in
+    let i = c .before .before .before .entry-at in
+    let e = c .before .before .before .before .before in
     let t = e .before .can-modify in
     (search needs, (modify-base _ _ _ _ _ (t .result) (t .ensures) (e .if1 .left), modify-inside _ _ _ _ _ (t .result) (t .ensures) (e .if1 .left) _ (i .ensures), modify-others _ _ _ _ _ (t .result) (t .ensures) (e .if1 .left) (c .before .if2 .left)))
 

@@ -4,6 +4,9 @@ use Rattle.unit.proofs.Walk.{empty-letter}
 use Rattle.unit.proofs.choice.empty_at.Statement.{statement}
 use Rattle.unit.proofs.choice.empty_at.Tie as tie
 
+cast-result : tie.Need-cast-result
+cast-result c = omega arith
+
 mul-result : tie.Need-mul-result
 mul-result c = omega arith
 
@@ -11,10 +14,10 @@ add-result : tie.Need-add-result
 add-result c = omega arith
 
 shared-slice-read-result : tie.Need-shared-slice-read-result
-shared-slice-read-result c = omega (arith, c .before .pre .0 .whole)
+shared-slice-read-result c = omega (arith, c .before .before .pre .0 .whole)
 
 returns : tie.Need-returns
-returns c = let a = c .before in empty-letter (a .args .w .now) (a .args .p) (a .pre .0) (a .pre .1)
+returns c = let a = c .before .before in empty-letter (a .args .w .now) (a .args .p .0) (a .pre .0) (a .pre .1)
 
 pub empty-at-spec : {M : Type 1} → statement M
-empty-at-spec = tie.close (tie.spec mul-result add-result shared-slice-read-result returns)
+empty-at-spec = tie.close (tie.spec cast-result mul-result add-result shared-slice-read-result returns)

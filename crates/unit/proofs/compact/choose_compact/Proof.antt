@@ -10,7 +10,7 @@ use Rattle.unit.proofs.compact.choose_compact.Tie as tie
 
 abbrev Inv-loop : tie.InvT-loop
 Inv-loop w fill there lk most low₀ at₀ left₀ low at left =
-    (low < 64) × Roots w at left × Still w fill (when there lk) most low at left
+    (low .0 < 64) × Roots w at left × Still w fill (when there lk) most (low .0) at left
 
 abbrev μ-loop : tie.MeasureT-loop
 μ-loop w fill there lk most low₀ at₀ left₀ low at left = left
@@ -41,16 +41,16 @@ cast-count-at : tie.Need-cast-count-at Inv-loop μ-loop
 cast-count-at c = omega arith
 
 count-at-requires-2 : tie.Need-count-at-requires-2 Inv-loop μ-loop
-count-at-requires-2 c κs = (search, over c .base .inside)
+count-at-requires-2 c κs = (search, over (c .before) .base .inside)
 
 cast-o : tie.Need-cast-o Inv-loop μ-loop
 cast-o c = omega arith
 
 mul-o : tie.Need-mul-o Inv-loop μ-loop
-mul-o c = omega (arith, over (c .before) .base .inside)
+mul-o c = omega (arith, over (c .before .before .before) .base .inside)
 
 add-compact-in : tie.Need-add-compact-in Inv-loop μ-loop
-add-compact-in c = omega (arith, over (c .before) .base .inside)
+add-compact-in c = omega (arith, over (c .before .before .before) .base .inside)
 
 sub-compact-in : tie.Need-sub-compact-in Inv-loop μ-loop
 sub-compact-in c = omega arith
@@ -59,16 +59,16 @@ part-compact-in-start : tie.Need-part-compact-in-start Inv-loop μ-loop
 part-compact-in-start c = omega arith
 
 part-compact-in-end : tie.Need-part-compact-in-end Inv-loop μ-loop
-part-compact-in-end c = omega (arith, over (c .before) .base .inside)
+part-compact-in-end c = omega (arith, over (c .before .before .before) .base .inside)
 
 compact-in-requires : tie.Need-compact-in-requires Inv-loop μ-loop
 compact-in-requires c κs = ((search, search roots-room, omega arith, omega arith), search roots-leaves)
 
 returns : tie.Need-returns Inv-loop μ-loop
 returns c =
-    let a = c .before .before .before in
-    let l = a .before .before .before in
-    still-stop _ _ _ _ _ _ _ (l .loop .inv .2) (l .loop .inv .1) (a .before .before .loop-test .taken) _ _ (a .before .get2 .ensures) (a .count-at2 .ensures) _
+    let a = c .before .before .before .before in
+    let l = a .before .before .before .before in
+    still-stop _ _ _ _ _ _ _ (l .loop .inv .2) (l .loop .inv .1) (a .before .before .before .loop-test .taken) _ _ (a .before .before .get2 .ensures) (a .count-at2 .ensures) _
     (c .before .compact-in .ensures) (c .if1 .taken)
 
 add-top-of : tie.Need-add-top-of Inv-loop μ-loop
@@ -81,7 +81,7 @@ part-top-of-start : tie.Need-part-top-of-start Inv-loop μ-loop
 part-top-of-start c = omega arith
 
 part-top-of-end : tie.Need-part-top-of-end Inv-loop μ-loop
-part-top-of-end c = omega (arith, over (c .before .before .before .before) .base .inside)
+part-top-of-end c = omega (arith, over (c .before .before .before .before .before .before) .base .inside)
 
 top-of-requires : tie.Need-top-of-requires Inv-loop μ-loop
 top-of-requires c κs = search roots-room
@@ -98,11 +98,11 @@ loop-less c = omega arith
 loop-again : tie.Need-loop-again Inv-loop μ-loop
 loop-again c =
     let e = c .before .before in
-    let a = e .before .before .before in
-    let l = a .before .before .before in (
+    let a = e .before .before .before .before in
+    let l = a .before .before .before .before in (
       top-small (l .before .before .before .before .args .w .now) _ _ _ (c .top-of .ensures) (search roots-leaves) (l .loop .inv .0),
       search roots-behind,
-      still-more _ _ _ _ _ _ _ (l .loop .inv .2) (l .loop .inv .1) (a .before .before .loop-test .taken) _ _ (a .before .get2 .ensures) (a .count-at2 .ensures) _
+      still-more _ _ _ _ _ _ _ (l .loop .inv .2) (l .loop .inv .1) (a .before .before .before .loop-test .taken) _ _ (a .before .before .get2 .ensures) (a .count-at2 .ensures) _
           (e .before .compact-in .ensures) (e .if1 .left) _ (c .top-of .ensures),
     )
 

@@ -13,12 +13,12 @@ use Rattle.unit.proofs.compact.compact_in.Statement.{statement}
 use Rattle.unit.proofs.compact.compact_in.Tie as tie
 
 abbrev Inv-loop : tie.InvT-loop
-Inv-loop w pg n b fill there lk from low₀ at₀ left₀ low at left =
-    (left ≤ n) × (at + 8 * left ≤ length pg) × (low < 64) × Each (Below 16 w) (rowsOf 8 left (drop at pg))
-    × Yet w fill (when there lk) b pg from n low at left
+Inv-loop w pg n b fill there lk from at₀ left₀ low at left =
+    (left ≤ n) × (at + 8 * left ≤ length pg) × (low .0 < 64) × Each (Below 16 w) (rowsOf 8 left (drop at pg))
+    × Yet w fill (when there lk) (b .0) pg (from .0) n (low .0) at left
 
 abbrev μ-loop : tie.MeasureT-loop
-μ-loop w pg n b fill there lk from low₀ at₀ left₀ low at left = left
+μ-loop w pg n b fill there lk from at₀ left₀ low at left = left
 
 -- the leaf below the entry in front
 spot : (c : tie.After-get2 Inv-loop μ-loop) → Spot 16 (c .before .before .before .before .before .args .w .now) (c .get2 .result)
@@ -50,19 +50,16 @@ cast-count-at : tie.Need-cast-count-at Inv-loop μ-loop
 cast-count-at c = omega arith
 
 count-at-requires : tie.Need-count-at-requires Inv-loop μ-loop
-count-at-requires c κs = (search, spot (c .before) .inside)
+count-at-requires c κs = (search, spot (c .before .before) .inside)
 
 joining-requires : tie.Need-joining-requires Inv-loop μ-loop
 joining-requires c κs =
-    let s = rw (← (c .count-at .ensures)) at (spot (c .before .before) .fits) in
-    let k = few (c .before) in
+    let s = rw (← (c .count-at .ensures)) at (spot (c .before .before .before) .fits) in
+    let k = few (c .before .before) in
     ((search, omega arith, omega arith, omega arith), search each-seven)
 
-cast-begins : tie.Need-cast-begins Inv-loop μ-loop
-cast-begins c = omega arith
-
 begins-requires : tie.Need-begins-requires Inv-loop μ-loop
-begins-requires c κs = (search, spot (c .before .before .before))
+begins-requires c κs = (search, spot (c .before .before .before .before))
 
 cast-compacting : tie.Need-cast-compacting Inv-loop μ-loop
 cast-compacting c = omega arith
@@ -72,7 +69,7 @@ add-compacting c = omega arith
 
 compacting-requires : tie.Need-compacting-requires Inv-loop μ-loop
 compacting-requires c κs =
-    let g = c .before .before .before .before in
+    let g = c .before .before .before .before .before in
     let s = spot (g .before) in
     let k = few g in
     ((search, omega arith, s .inside, omega arith), (omega (arith, c .before .before .joining .ensures .1), omega (arith, c .before .before .joining .ensures .1)))
@@ -80,7 +77,7 @@ compacting-requires c κs =
 returns : tie.Need-returns Inv-loop μ-loop
 returns c =
     let z = c .before .before in
-    let k = z .before .before .before in
+    let k = z .before .before .before .before in
     let g = k .before in
     let l = g .before .before in
     yet-stop! _ _ _ _ _ _ _ _ _ _ (l .loop .inv .4) _ _ _ _ _ (g .get2 .ensures) (z .before .before .count-at .ensures) (k .seven .ensures) (z .before .joining .ensures .0)
@@ -101,7 +98,7 @@ loop-less c = omega arith
 loop-again : tie.Need-loop-again Inv-loop μ-loop
 loop-again c =
     let z = c .before .before in
-    let k = z .before .before .before in
+    let k = z .before .before .before .before in
     let g = k .before in
     let l = g .before .before in (
       omega arith,
@@ -135,7 +132,6 @@ compact-in-spec =
     cast-count-at
     count-at-requires
     joining-requires
-    cast-begins
     begins-requires
     cast-compacting
     add-compacting

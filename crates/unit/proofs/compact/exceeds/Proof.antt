@@ -7,6 +7,9 @@ use Rattle.unit.proofs.compact.exceeds.Tie as tie
 returns : tie.Need-returns
 returns c = search exceeds-any!
 
+cast-get4 : tie.Need-cast-get4
+cast-get4 c = omega arith
+
 mul-get4 : tie.Need-mul-get4
 mul-get4 c = omega arith
 
@@ -20,4 +23,4 @@ returns-2 : tie.Need-returns-2
 returns-2 c = search exceeds-some!
 
 pub exceeds-spec : {M : Type 1} → statement M
-exceeds-spec = tie.close (tie.spec returns mul-get4 add-get4 get4-requires returns-2)
+exceeds-spec = tie.close (tie.spec returns cast-get4 mul-get4 add-get4 get4-requires returns-2)

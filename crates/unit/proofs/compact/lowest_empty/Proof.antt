@@ -11,20 +11,17 @@ use Rattle.unit.proofs.compact.lowest_empty.Statement.{statement}
 use Rattle.unit.proofs.compact.lowest_empty.Tie as tie
 
 abbrev Inv-loop : tie.InvT-loop
-Inv-loop w low c p₀ p =
-    (low < p) × (p ≤ 64) × (lowestEmpty low c 0 (pages w) ≡ lowestEmpty low c p (drop p (pages w)))
+Inv-loop w c above p₀ p =
+    (above < p) × (p ≤ 64) × (lowestEmpty above (c .0) 0 (pages w) ≡ lowestEmpty above (c .0) p (drop p (pages w)))
 
 abbrev μ-loop : tie.MeasureT-loop
-μ-loop w low c p₀ p = c - p
+μ-loop w c above p₀ p = c .0 - p
 
 add-p : tie.Need-add-p Inv-loop μ-loop
 add-p c = omega arith
 
 loop-holds : tie.Need-loop-holds Inv-loop μ-loop
 loop-holds c = (omega arith, omega arith, search low-start!)
-
-cast-empty-at : tie.Need-cast-empty-at Inv-loop μ-loop
-cast-empty-at c = omega arith
 
 empty-at-requires : tie.Need-empty-at-requires Inv-loop μ-loop
 empty-at-requires c κs = search needs
@@ -52,7 +49,6 @@ lowest-empty-spec =
     μ-loop
     add-p
     loop-holds
-    cast-empty-at
     empty-at-requires
     returns
     add-p-2

@@ -11,11 +11,11 @@ use Rattle.unit.proofs.compact.top_of.Statement.{statement}
 use Rattle.unit.proofs.compact.top_of.Tie as tie
 
 abbrev Inv-loop : tie.InvT-loop
-Inv-loop pg n from low₀ at₀ left₀ low at left =
-    (left ≤ n) × (at + 8 * left ≤ length pg) × (topOf from (rowsOf 8 n (drop 16 pg)) ≡ topOf low (rowsOf 8 left (drop at pg)))
+Inv-loop pg n from at₀ left₀ low at left =
+    (left ≤ n) × (at + 8 * left ≤ length pg) × (topOf (from .0) (rowsOf 8 n (drop 16 pg)) ≡ topOf (low .0) (rowsOf 8 left (drop at pg)))
 
 abbrev μ-loop : tie.MeasureT-loop
-μ-loop pg n from low₀ at₀ left₀ low at left = left
+μ-loop pg n from at₀ left₀ low at left = left
 
 loop-holds : tie.Need-loop-holds Inv-loop μ-loop
 loop-holds c = (omega arith, omega arith, refl)

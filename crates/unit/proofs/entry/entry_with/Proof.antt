@@ -13,7 +13,7 @@ use Rattle.unit.proofs.entry.entry_with.Tie as tie
 abbrev Inv-loop : tie.InvT-loop
 Inv-loop pg n key p at₀ left₀ at left =
     (left ≤ n) × (at + 8 * left ≤ length pg)
-    × (placeOf key p (rowsOf 8 n (drop 16 pg)) ≡ n - left + placeOf key p (rowsOf 8 left (drop at pg)))
+    × (placeOf key (p .0) (rowsOf 8 n (drop 16 pg)) ≡ n - left + placeOf key (p .0) (rowsOf 8 left (drop at pg)))
 
 abbrev μ-loop : tie.MeasureT-loop
 μ-loop pg n key p at₀ left₀ at left = left

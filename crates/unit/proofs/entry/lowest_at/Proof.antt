@@ -4,8 +4,14 @@ use borrow.Author.Needs.{needs}
 use Rattle.unit.proofs.entry.lowest_at.Statement.{statement}
 use Rattle.unit.proofs.entry.lowest_at.Tie as tie
 
+cast-count-at : tie.Need-cast-count-at
+cast-count-at c = search needs
+
 count-at-requires : tie.Need-count-at-requires
 count-at-requires c κs = search needs
+
+cast-at : tie.Need-cast-at
+cast-at c = search needs
 
 mul-at : tie.Need-mul-at
 mul-at c = search needs
@@ -32,7 +38,9 @@ pub lowest-at-spec : {M : Type 1} → statement M
 lowest-at-spec =
     tie.close
     (tie.spec
+    cast-count-at
     count-at-requires
+    cast-at
     mul-at
     add-lowest-to
     sub-lowest-to

@@ -14,7 +14,7 @@ use Rattle.unit.proofs.entry.lowest_to.Tie as tie
 abbrev Inv-loop : tie.InvT-loop
 Inv-loop pg n p skip skipped at₀ left₀ at left =
     (left ≤ n) × (at + 8 * left ≤ length pg)
-    × (lowestTo (when skip skipped) p (rowsOf 8 n (drop 16 pg)) ≡ lowestTo (when skip skipped) p (rowsOf 8 left (drop at pg)))
+    × (lowestTo (when skip skipped) (p .0) (rowsOf 8 n (drop 16 pg)) ≡ lowestTo (when skip skipped) (p .0) (rowsOf 8 left (drop at pg)))
 
 abbrev μ-loop : tie.MeasureT-loop
 μ-loop pg n p skip skipped at₀ left₀ at left = left

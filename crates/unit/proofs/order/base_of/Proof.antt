@@ -14,7 +14,7 @@ use Rattle.unit.proofs.order.base_of.Tie as tie
 
 abbrev Inv-loop : tie.InvT-loop
 Inv-loop w p at₀ left₀ at left =
-    Ahead w at left × (baseOf p (leavesOf (pages w)) ≡ baseOf p (leavesBelow (pages w) (rowsOf 8 left (drop at w))))
+    Ahead w at left × (baseOf (p .0) (leavesOf (pages w)) ≡ baseOf (p .0) (leavesBelow (pages w) (rowsOf 8 left (drop at w))))
 
 abbrev μ-loop : tie.MeasureT-loop
 μ-loop w p at₀ left₀ at left = left
@@ -32,7 +32,7 @@ loop-holds : tie.Need-loop-holds Inv-loop μ-loop
 loop-holds c =
     let w = c .before .before .args .w .now in
     let a = ahead-all w (c .count-at .result) (c .before .before .pre) (c .count-at .ensures) in
-    (a, ap (baseOf (c .before .before .args .p)) (leaves-all w (c .count-at .result) a (c .count-at .ensures)))
+    (a, ap (baseOf (c .before .before .args .p .0)) (leaves-all w (c .count-at .result) a (c .count-at .ensures)))
 
 add-get2 : tie.Need-add-get2 Inv-loop μ-loop
 add-get2 c = omega arith
@@ -44,7 +44,7 @@ cast-count-at : tie.Need-cast-count-at Inv-loop μ-loop
 cast-count-at c = omega arith
 
 count-at-requires-2 : tie.Need-count-at-requires-2 Inv-loop μ-loop
-count-at-requires-2 c κs = omega (arith, here c)
+count-at-requires-2 c κs = omega (arith, here (c .before))
 
 cast-o : tie.Need-cast-o Inv-loop μ-loop
 cast-o c = omega arith
@@ -62,7 +62,7 @@ part-points-to-start : tie.Need-part-points-to-start Inv-loop μ-loop
 part-points-to-start c = omega arith
 
 part-points-to-end : tie.Need-part-points-to-end Inv-loop μ-loop
-part-points-to-end c = omega (arith, here (c .before))
+part-points-to-end c = omega (arith, here (c .before .before .before))
 
 points-to-requires : tie.Need-points-to-requires Inv-loop μ-loop
 points-to-requires c κs = search base-room

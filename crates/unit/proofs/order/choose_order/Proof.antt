@@ -21,9 +21,6 @@ returns c =
     let a = c .before .before .before in
     order-none! (a .before .before .args .w .now) (a .stray-leaf .result) (a .stray-leaf .ensures) (c .nothing .result) (search) (c .nothing .ensures)
 
-cast-empty-at : tie.Need-cast-empty-at
-cast-empty-at c = search needs
-
 empty-at-requires : tie.Need-empty-at-requires
 empty-at-requires c κs = (search needs, search want-small)
 
@@ -50,7 +47,7 @@ returns-3 c =
     let k = m .before .before in
     let a = k .before .before in
     order-swap! (a .before .before .args .w .now) (a .stray-leaf .result) (a .stray-leaf .ensures) (c .swapping .result) _ _ _ (k .want .given .1) (m .empty-at .result)
-    (m .empty-at .ensures) (search want-small) (c .before .base-of .result) (c .before .base-of .ensures) (c .before .before .if1 .left) (c .swapping .ensures)
+    (m .empty-at .ensures) (search want-small) (c .before .base-of .result .0) (c .before .base-of .ensures) (c .before .before .if1 .left) (c .swapping .ensures)
 
 pub choose-order-spec : {M : Type 1} → statement M
 choose-order-spec =
@@ -61,7 +58,6 @@ choose-order-spec =
     enum-told
     nothing-requires
     returns
-    cast-empty-at
     empty-at-requires
     moving-requires
     returns-2

@@ -4,12 +4,12 @@ use Rattle.unit.specs.Choice.{place}
 use Rattle.unit.proofs.order.place.Statement.{statement}
 use Rattle.unit.proofs.order.place.Tie as tie
 
-add-result : tie.Need-add-result
-add-result c = search needs
+add-t2 : tie.Need-add-t2
+add-t2 c = search needs
 
 returns : tie.Need-returns
 unfolding place
 returns c = search needs
 
 pub place-spec : {M : Type 1} → statement M
-place-spec = tie.close (tie.spec add-result returns)
+place-spec = tie.close (tie.spec add-t2 returns)

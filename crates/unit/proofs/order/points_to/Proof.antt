@@ -11,7 +11,7 @@ use Rattle.unit.proofs.order.points_to.Tie as tie
 
 abbrev Inv-loop : tie.InvT-loop
 Inv-loop pg n p at₀ left₀ at left =
-    (left ≤ n) × (at + 8 * left ≤ length pg) × (pointsTo p (rowsOf 8 n (drop 16 pg)) ≡ pointsTo p (rowsOf 8 left (drop at pg)))
+    (left ≤ n) × (at + 8 * left ≤ length pg) × (pointsTo (p .0) (rowsOf 8 n (drop 16 pg)) ≡ pointsTo (p .0) (rowsOf 8 left (drop at pg)))
 
 abbrev μ-loop : tie.MeasureT-loop
 μ-loop pg n p at₀ left₀ at left = left

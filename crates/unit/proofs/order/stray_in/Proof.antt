@@ -12,7 +12,7 @@ use Rattle.unit.proofs.order.stray_in.Tie as tie
 abbrev Inv-loop : tie.InvT-loop
 Inv-loop pg n b first i₀ at₀ left₀ i at left =
     (left ≤ n) × (at + 8 * left ≤ length pg) × (i + left < 1000)
-    × (strayIn first b (rowsOf 8 n (drop 16 pg)) ≡ strayIn i b (rowsOf 8 left (drop at pg)))
+    × (strayIn first (b .0) (rowsOf 8 n (drop 16 pg)) ≡ strayIn i (b .0) (rowsOf 8 left (drop at pg)))
 
 abbrev μ-loop : tie.MeasureT-loop
 μ-loop pg n b first i₀ at₀ left₀ i at left = left
@@ -45,7 +45,15 @@ loop-less : tie.Need-loop-less Inv-loop μ-loop
 loop-less c = omega arith
 
 loop-again : tie.Need-loop-again Inv-loop μ-loop
-loop-again c = (omega arith, omega arith, omega arith, search stray-more!)
+loop-again c =
+    let k = c .before .before .before in
+    let l = k .before .before .before in
+    let a = l .before .before .args in (
+      omega arith,
+      omega arith,
+      omega arith,
+      stray-more! (a .b) (l .loop .i) (a .first) (a .n) 16 (l .loop .left) (l .loop .at) (a .pg .now) (l .loop .inv .3) _ (k .place .result) (k .before .get2 .ensures) (k .place .ensures) (k .before .before .loop-test .taken) (c .if1 .left),
+    )
 
 returns-2 : tie.Need-returns-2 Inv-loop μ-loop
 returns-2 c = search stray-end!

@@ -29,7 +29,7 @@ here c =
 -- its entries are few
 few : (c : tie.After-count-at2 Inv-loop μ-loop) → c .count-at2 .result ≤ 30
 few c =
-    let g = c .before in
+    let g = c .before .before in
     let l = g .before .before in
     base-count (l .before .before .before .args .w .now) (l .loop .at) (l .loop .left) (l .loop .inv .0) (g .before .loop-test .taken) (g .get2 .result) (g .get2 .ensures) (c .count-at2 .result) (c .count-at2 .ensures)
 
@@ -52,7 +52,7 @@ cast-count-at : tie.Need-cast-count-at Inv-loop μ-loop
 cast-count-at c = omega arith
 
 count-at-requires-2 : tie.Need-count-at-requires-2 Inv-loop μ-loop
-count-at-requires-2 c κs = omega (arith, here c)
+count-at-requires-2 c κs = omega (arith, here (c .before))
 
 cast-o : tie.Need-cast-o Inv-loop μ-loop
 cast-o c = omega arith
@@ -70,10 +70,10 @@ part-stray-in-start : tie.Need-part-stray-in-start Inv-loop μ-loop
 part-stray-in-start c = omega arith
 
 part-stray-in-end : tie.Need-part-stray-in-end Inv-loop μ-loop
-part-stray-in-end c = omega (arith, here (c .before))
+part-stray-in-end c = omega (arith, here (c .before .before .before))
 
 stray-in-requires : tie.Need-stray-in-requires Inv-loop μ-loop
-stray-in-requires c κs = (search base-room, omega (arith, few (c .before)))
+stray-in-requires c κs = (search base-room, omega (arith, few (c .before .before)))
 
 enum-told : tie.Need-enum-told Inv-loop μ-loop
 enum-told c = omega arith
@@ -85,7 +85,7 @@ enum-told-2 : tie.Need-enum-told-2 Inv-loop μ-loop
 enum-told-2 c = omega arith
 
 add-i : tie.Need-add-i Inv-loop μ-loop
-add-i c = omega (arith, few (c .before .before .before .before))
+add-i c = omega (arith, few (c .before .before .before .before .before))
 
 add-at : tie.Need-add-at Inv-loop μ-loop
 add-at c = omega arith
@@ -97,7 +97,7 @@ loop-less : tie.Need-loop-less Inv-loop μ-loop
 loop-less c = omega arith
 
 loop-again : tie.Need-loop-again Inv-loop μ-loop
-loop-again c = (search ahead-behind, omega (arith, few (c .before .before .before .before)), search leaf-more!)
+loop-again c = (search ahead-behind, omega (arith, few (c .before .before .before .before .before)), search leaf-more!)
 
 returns-2 : tie.Need-returns-2 Inv-loop μ-loop
 returns-2 c = search leaf-end!

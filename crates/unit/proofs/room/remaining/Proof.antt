@@ -12,17 +12,17 @@ use Rattle.unit.proofs.room.remaining.Tie as tie
 
 abbrev Inv-loop : tie.InvT-loop
 Inv-loop w m unit done bytes₀ i₀ bytes i =
-    (done ≤ i) × (i < length (plan (readBegin unit m))) × (bytes ≤ 1048580 * i)
-    × (room w (drop done (plan (readBegin unit m))) ≡ bytes + room w (drop i (plan (readBegin unit m))))
+    (done ≤ i) × (i < length (plan (readBegin (unit .0) m))) × (bytes ≤ 1048580 * i)
+    × (room w (drop done (plan (readBegin (unit .0) m))) ≡ bytes + room w (drop i (plan (readBegin (unit .0) m))))
 
 abbrev μ-loop : tie.MeasureT-loop
-μ-loop w m unit done bytes₀ i₀ bytes i = length (plan (readBegin unit m)) - i
+μ-loop w m unit done bytes₀ i₀ bytes i = length (plan (readBegin (unit .0) m)) - i
 
 -- few steps, and one more where the step is not the end
 few : (c : tie.At-loop Inv-loop μ-loop) → c .loop .i < 25
 few c = omega (arith, plan-few _ (c .before .before .before .pre .2), c .loop .inv .1)
 
-more : (c : tie.Else1 Inv-loop μ-loop) → c .before .before .before .before .loop .i + 1 < length (plan (readBegin (c .before .before .before .before .before .before .before .args .unit) (c .before .before .before .before .before .before .before .args .m .now)))
+more : (c : tie.Else1 Inv-loop μ-loop) → c .before .before .before .before .loop .i + 1 < length (plan (readBegin (c .before .before .before .before .before .before .before .args .unit .0) (c .before .before .before .before .before .before .before .args .m .now)))
 more c =
     let s = c .before .before .before in
     let l = s .before in
@@ -55,7 +55,7 @@ returns c =
     let s = c .before .before .before in
     let l = s .before in
     let a = l .before .before .before in
-    let P = plan (readBegin (a .args .unit) (a .args .m .now)) in
+    let P = plan (readBegin (a .args .unit .0) (a .args .m .now)) in
     let t = sym (c .before .closes .ensures) ∙ c .if1 .taken in
     let last = step-last _ (a .pre .2) (l .loop .i) (l .loop .inv .1) _ _ (s .step-at .ensures) t in
     let left = room-last _ (a .pre .2) (l .loop .i) (l .loop .inv .1) _ _ (s .step-at .ensures) (a .args .w .now) t in

@@ -155,7 +155,8 @@ module _ (work : List ℕ) {l : List ℕ} {w : Walk} (s : Stands l w) (x : Step)
         → m ≡ put (w .at) (encode (w .number .0 + 1) r) l → appendNext work l ≡ went (after (atEnd (s .log)) r) v m
     append-goes v m e a p =
         let t = tested-ok (w .at + room work (toCome l w)) (w .number .0 + 1) e in
-        with-record ∙ given-some _ v (stopped 5) _ a ∙ need-true _ (stopped 6) _ (le-leb _ 8192 (t .0)) ∙ need-true _ (stopped 7) _ (le-leb _ most4 (t .1)) ∙ ap (went (after (atEnd (s .log)) r) v) (sym p)
+        with-record ∙ given-some _ v (stopped 5) _ a ∙ need-true _ (stopped 6) _ (le-leb _ 8192 (t .0)) ∙ need-true _ (stopped 7) _ (le-leb _ most4 (t .1)) ∙ ap
+        (went (after (atEnd (s .log)) r) v) (sym p)
 
   -- there is room for the record itself
   pub record-room : tested (w .at + room work (toCome l w)) (w .number .0 + 1) ≡ 0 → w .at + stepSize work x ≤ 8192

@@ -198,7 +198,8 @@ append-grows g x xs w l s′ w′ l′ n bw bl e t a =
     let h : Good g = readLog-facts l g e .good bl in
     let o : Opened s x xs = opened-of s (s .opened) x xs refl t in
     let d : Does (o .unit .did) x r =
-    next-does x (o .unit .did) (pageOf (targetOf x) w) r (page-bytes (targetOf x) w bw) (subst (λ (v : List Rec). nextRec x v (pageOf (targetOf x) w) ≡ some r) (did-of s (o .unit) (o .is)) (k .next)) in
+    next-does x (o .unit .did) (pageOf (targetOf x) w) r (page-bytes (targetOf x) w bw)
+    (subst (λ (v : List Rec). nextRec x v (pageOf (targetOf x) w) ≡ some r) (did-of s (o .unit) (o .is)) (k .next)) in
     let f : Fits s r = record { room = k .numbered; follows = subst (λ (v : Option Open). Follows (s .unit) v r) (sym (o .is)) (goes (o .todo) d) } in
     let st : Stands (s .number + 1) r = fits-stands (sound-atEnd g h) (end-keeps g h) f in
     let aw : Awaits (s .unit) (o .unit) = waits-open (subst (Waits (s .unit)) (o .is) (sound-atEnd g h .waits)) in

@@ -282,7 +282,8 @@ module _ {l : List ℕ} {w : Walk} (s : Stands l w) where
   before : (base old new : ℕ) → nextStep l w ≡ point base old new true → Before (s .unit .did)
   before base old new e =
       let a : Awaits (atEnd (s .log) .unit) (s .unit) = awaits (atEnd (s .log)) (s .unit) (s .toward .holds .sound) (s .opened) in
-      by-past 0 (s .next .others) (plan (s .unit .start)) base old new (a .done) (subst (λ (ys : List Step). reverseAux (a .past) ys ≡ plan (s .unit .start)) (todo-is s (point base old new true) e) (a .whole)) (plan-behind (s .unit .start) 0)
+      by-past 0 (s .next .others) (plan (s .unit .start)) base old new (a .done)
+      (subst (λ (ys : List Step). reverseAux (a .past) ys ≡ plan (s .unit .start)) (todo-is s (point base old new true) e) (a .whole)) (plan-behind (s .unit .start) 0)
 
   -- the key that an LM leaves out, by numbers
   pub skip-is : (base old new : ℕ) (other : Bool) → nextStep l w ≡ point base old new other → when other (w .key) ≡ skipped other (s .unit .did)

@@ -10,7 +10,8 @@ use Rattle.field.proofs.Test.{need-true, need-false}
 use Rattle.log.specs.Record.{Begin}
 use Rattle.log.specs.Log.{State}
 use Rattle.tree.specs.Answer.{Found, missing, found}
-use Rattle.store.specs.Calls.{Lent, Left, refused, zeroed, threeSized, Went, stopped, went, stepped, recovered, answered, begun, beginWith, build, recover, beginCompact, beginOrder, step, flush, force, checkpoint, find, list}
+use Rattle.store.specs.Calls.{Lent, Left, refused, zeroed, threeSized, Went, stopped, went, stepped, recovered, answered, begun, beginWith}
+use Rattle.store.specs.Calls.{build, recover, beginCompact, beginOrder, step, flush, force, checkpoint, find, list}
 
 -- q says what a refusal with a reply leaves; x is what a call leaves, and refuses only so
 abbrev pub Refuses : (q : ℕ → Left) → Left → Type 0

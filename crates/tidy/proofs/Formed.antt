@@ -25,7 +25,8 @@ use Rattle.tidy.proofs.Pages.{sound-page, leafOf, baseOf, rootOf, leaf-
 use Rattle.tidy.proofs.Shown.{Shows}
 use Rattle.tidy.proofs.Keys.{rowTrail, kept-trail, trail-kept, below-ascends}
 use Rattle.tidy.proofs.Tests.{outside, once-at, once-all, zero-to, zero-of}
-use Rattle.tidy.proofs.Below.{root, leaves, root-is, level-is, root-into, leaves-into, level-ents, records-beneath, trail-base, trail-leaf, bases-asc, leaves-asc, full-base, full-leaf, heads-to, heads-of}
+use Rattle.tidy.proofs.Below.{root, leaves, root-is, level-is, root-into, leaves-into, level-ents, records-beneath, trail-base, trail-leaf}
+use Rattle.tidy.proofs.Below.{bases-asc, leaves-asc, full-base, full-leaf, heads-to, heads-of}
 
 -- the tree that the pages show
 abbrev pub stateOf : List ℕ → State

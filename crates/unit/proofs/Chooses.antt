@@ -203,7 +203,18 @@ module _ (w : List ℕ) (fill : ℕ) (lk : Option ℕ) (b : ℕ) (l : List ℕ) 
         ∙ ap (λ (x : List (List ℕ)). chooseCompact u fill low lk (pages w) (leavesUnder (pages w) b x)) (rows-next 8 left at l more)
         ∙ ap (chooseCompact u fill low lk (pages w)) (sym (append-nil (leavesUnder (pages w) b (part at 8 l ∷ rowsOf 8 (left - 1) (drop (at + 8) l)))))
         ∙ choose-head u fill lk (pages w) b [] (stops-nil fill b) low (part at 8 l) (rowsOf 8 (left - 1) (drop (at + 8) l))
-        ∙ rw (under-page w left at l c f small, ← g, page-row 8 at l (omega arith), ← f, seven-rows (left - 1) s (drop (at + 8) l) hs, ← hk, take-rows k (left - 1) (drop (at + 8) l) ks, append-nil (leavesUnder (pages w) b (rowsOf 8 (left - 1) (drop (at + 8) l))), ← hz, ← listed)
+        ∙ rw (
+          under-page w left at l c f small,
+          ← g,
+          page-row 8 at l (omega arith),
+          ← f,
+          seven-rows (left - 1) s (drop (at + 8) l) hs,
+          ← hk,
+          take-rows k (left - 1) (drop (at + 8) l) ks,
+          append-nil (leavesUnder (pages w) b (rowsOf 8 (left - 1) (drop (at + 8) l))),
+          ← hz,
+          ← listed,
+        )
 
     pub yet-stop! : (r : Choice) → z ≡ true
         → Picks r (λ u. some (compactOf u fill (leafOf b c) (toPages (rowsOf 8 (k + 1) (drop at l))) (lowestEmpty low c 0 (pages w))))

@@ -137,7 +137,8 @@ stray-above i (l ∷ ls) want b p clear twice e =
     let r = stray-above (i + 1) ls want b p clear1 (λ q. omega (arith, twice q)) e1 in
     (r .0, omega (arith, r .1)))
     (λ t. let ne : l .at ≡ place i → ⊥ = λ z. false-true (sym t ∙ eq-eqb (l .at) (place i) z) in
-    let e1 : At (pageNo (place i)) (pageNo (l .base)) (pageNo (l .at)) ≡ At want b p = sym (pick-false (eqb (l .at) (place i)) (stray (i + 1) ls) (At (pageNo (place i)) (pageNo (l .base)) (pageNo (l .at))) t) ∙ e in
+    let e1 : At (pageNo (place i)) (pageNo (l .base)) (pageNo (l .at)) ≡ At want b p = sym
+    (pick-false (eqb (l .at) (place i)) (stray (i + 1) ls) (At (pageNo (place i)) (pageNo (l .base)) (pageNo (l .at))) t) ∙ e in
     let x = at-parts (pageNo (place i)) (pageNo (l .base)) (pageNo (l .at)) want b p e1 in
     let y : l .at ≡ p .0 = ap (λ (z : PageNo). z .0) (x .1) in
     let v : place i ≡ want .0 = ap (λ (z : PageNo). z .0) (x .0) in
@@ -164,7 +165,8 @@ unfolding chooseOrder stray
 choose-stray u ps ls i [] = unfold inOrder in refl
 choose-stray u ps ls i (l ∷ rest) = rw (choose-stray u ps ls (i + 1) rest) (out (eqb (l .at) (place i)))
   where
-    out : (t : Bool) → pick t (inOrder u ps ls (stray (i + 1) rest)) (some (putInOrder u (place i) ps ls l)) ≡ inOrder u ps ls (pick t (stray (i + 1) rest) (At (pageNo (place i)) (pageNo (l .base)) (pageNo (l .at))))
+    out : (t : Bool) → pick t (inOrder u ps ls (stray (i + 1) rest)) (some (putInOrder u (place i) ps ls l)) ≡ inOrder u ps ls
+        (pick t (stray (i + 1) rest) (At (pageNo (place i)) (pageNo (l .base)) (pageNo (l .at))))
     out true = unfold pick in refl
     out false = unfold pick inOrder putInOrder moveOf swapOf in refl
 
@@ -187,11 +189,13 @@ module _ (w : List ℕ) (s : Stray) (e : s ≡ stray 0 (leavesOf (pages w))) (r 
   order-none! h p = picks-as r _ _ p (λ u. sym (order-stray u (pages w) ∙ rw (← e, h) (unfold inOrder in refl)))
 
   module _ (want b q : PageNo) (h : s ≡ At want b q) (z : Bool) (k : z ≡ isEmpty (page (want .0) w)) (small : want .0 < 64) where
-    right : (u : ℕ) → orderUnit u (pages w) ≡ some (pick z (moveOf u (leafOf (b .0) (q .0)) (want .0)) (swapOf u (leafOf (b .0) (q .0)) (want .0) (baseOf (want .0) (leavesOf (pages w)))))
+    right : (u : ℕ) → orderUnit u (pages w) ≡ some (pick z (moveOf u (leafOf (b .0) (q .0)) (want .0))
+        (swapOf u (leafOf (b .0) (q .0)) (want .0) (baseOf (want .0) (leavesOf (pages w)))))
     right u = order-stray u (pages w) ∙ rw (← e, h) (unfold inOrder putInOrder in rw (getD-pages (want .0) w small, k))
 
     pub order-move! : z ≡ true → Picks r (λ u. some (moveOf u (leafOf (b .0) (q .0)) (want .0))) → Picks r (λ u. orderUnit u (pages w))
     order-move! t p = picks-as r _ _ p (λ u. sym (right u ∙ ap some (pick-true z _ _ t)))
 
-    pub order-swap! : (other : ℕ) → other ≡ baseOf (want .0) (leavesOf (pages w)) → z ≡ false → Picks r (λ u. some (swapOf u (leafOf (b .0) (q .0)) (want .0) other)) → Picks r (λ u. orderUnit u (pages w))
+    pub order-swap! : (other : ℕ) → other ≡ baseOf (want .0) (leavesOf (pages w)) → z ≡ false → Picks r
+        (λ u. some (swapOf u (leafOf (b .0) (q .0)) (want .0) other)) → Picks r (λ u. orderUnit u (pages w))
     order-swap! other o t p = picks-as r _ _ p (λ u. sym (right u ∙ ap some (pick-false z _ _ t) ∙ rw o))

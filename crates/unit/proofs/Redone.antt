@@ -93,7 +93,8 @@ module _ (l : List ℕ) (w : Walk) (p : Planned) (h : Reads l w (stepOf p)) wher
   point-reads base old new other e = subst (λ (x : Planned). Reads l w (stepOf x)) e h
 
 module _ (n : ℕ) (l : List ℕ) (w : Walk) (p : Planned) (v v′ : List ℕ) (r : Bool) where
-  pub step-out! : (org dest : PageNo) → p ≡ Out org dest → ((to : ℕ) → Did (repeat n (recordAt l w (takeOut (org .0) to)) v) v r v′) → Did (repeat n (recordAt l w (stepOf p)) v) v r v′
+  pub step-out! : (org dest : PageNo) → p ≡ Out org dest → ((to : ℕ) → Did (repeat n (recordAt l w (takeOut (org .0) to)) v) v r v′) → Did
+      (repeat n (recordAt l w (stepOf p)) v) v r v′
   unfolding stepOf
   step-out! org dest e d = rw e (d (dest .0))
 
@@ -102,7 +103,8 @@ module _ (n : ℕ) (l : List ℕ) (w : Walk) (p : Planned) (v v′ : List ℕ) (
   unfolding stepOf
   step-in! org dest back e d = rw e (d (org .0))
 
-  pub step-point! : (base old new : PageNo) (other : Bool) → p ≡ Point base old new other → ((o : Bool) → Did (repeat n (recordAt l w (point (base .0) (old .0) (new .0) o)) v) v r v′)
+  pub step-point! : (base old new : PageNo) (other : Bool) → p ≡ Point base old new other →
+      ((o : Bool) → Did (repeat n (recordAt l w (point (base .0) (old .0) (new .0) o)) v) v r v′)
       → Did (repeat n (recordAt l w (stepOf p)) v) v r v′
   unfolding stepOf
   step-point! base old new other e d = rw e (d other)

@@ -23,7 +23,9 @@ use Rattle.log.specs.declared.scan.Walk.{Walk}
 use Rattle.log.specs.declared.steps.Planned.{Planned}
 use Rattle.log.proofs.Valid.{Moved}
 use Rattle.log.proofs.Laid.{Sourced}
-use Rattle.log.proofs.Toward.{Toward, toward-first, toward-comes, toward-over, toward-ready, turned-ok, toward-turned, toward-room, toward-fits, toward-rest, toward-less, Comes, topped-read, shown-opened, shown-shut, Next, toward-next, toward-source, Takes, toward-begins, toward-record, toward-takes}
+use Rattle.log.proofs.Toward.{Toward, toward-first, toward-comes, toward-over, toward-ready, turned-ok, toward-turned, toward-room, toward-fits}
+use Rattle.log.proofs.Toward.{toward-rest, toward-less, Comes, topped-read, shown-opened, shown-shut, Next, toward-next, toward-source, Takes}
+use Rattle.log.proofs.Toward.{toward-begins, toward-record, toward-takes}
 use Rattle.unit.specs.Next.{target, changedAt, repeat, repeatAll}
 use Rattle.unit.specs.Made.{Did}
 use Rattle.unit.specs.Again.{Reads, nextStep, Ahead, redone, repeated, Repeated}

@@ -65,7 +65,8 @@ module _ (w : List ℕ) (at left : ℕ) (r : Roots w at left) (more : 0 < left) 
 
     module _ (m : ℕ) (g : m ≡ count (page q w)) where
       -- what a call over the base page's entries asks
-      roots-asks : (16 + 8 * m ≤ length (take (256 * q + 256 - 256 * q) (drop (256 * q) w))) × Each (Below 16 w) (rowsOf 8 m (drop 16 (take (256 * q + 256 - 256 * q) (drop (256 * q) w))))
+      roots-asks : (16 + 8 * m ≤ length (take (256 * q + 256 - 256 * q) (drop (256 * q) w))) × Each (Below 16 w)
+          (rowsOf 8 m (drop 16 (take (256 * q + 256 - 256 * q) (drop (256 * q) w))))
       roots-asks = over-asks w q m (r .ahead .form .whole) roots-over g
 
       pub roots-room : 16 + 8 * m ≤ length (take (256 * q + 256 - 256 * q) (drop (256 * q) w))
@@ -76,7 +77,8 @@ module _ (w : List ℕ) (at left : ℕ) (r : Roots w at left) (more : 0 < left) 
 
       roots-turn : (u fill low : ℕ) (lk : Option ℕ) → chooseCompact u fill low lk (pages w) (leavesBelow (pages w) (rowsOf 8 left (drop at w)))
           ≡ given (chooseCompact u fill low lk (pages w) (leavesUnder (pages w) q (rowsOf 8 m (drop 16 (take (256 * q + 256 - 256 * q) (drop (256 * q) w))))))
-          (chooseCompact u fill (topOf low (rowsOf 8 m (drop 16 (take (256 * q + 256 - 256 * q) (drop (256 * q) w))))) lk (pages w) (leavesBelow (pages w) (rowsOf 8 (left - 1) (drop (at + 8) w)))) some
+          (chooseCompact u fill (topOf low (rowsOf 8 m (drop 16 (take (256 * q + 256 - 256 * q) (drop (256 * q) w))))) lk (pages w)
+          (leavesBelow (pages w) (rowsOf 8 (left - 1) (drop (at + 8) w)))) some
       roots-turn u fill low lk =
           rw (leaves-next w left at w q f (roots-over .base .inside) more, base-rows w q m g)
           (choose-append u fill lk (pages w) q _ (stops-below (pages w) fill q _ gone) low (rows 8 (page q w))

@@ -79,7 +79,8 @@ unfolding stray strayIn leavesUnder leafAt
 stray-under ps i b [] ls = rw (add-zero i) (unfold onward in refl)
 stray-under ps i b (e ∷ es) ls =
     let q : i + 1 + length es ≡ i + suc (length es) = omega arith in
-    rw (stray-under ps (i + 1) b es ls, q) (pick-onward (eqb (toPage e) (place i)) (strayIn (i + 1) b es) (stray (i + suc (length es)) ls) (pageNo (place i)) (pageNo b) (pageNo (toPage e)))
+    rw (stray-under ps (i + 1) b es ls, q) (pick-onward (eqb (toPage e) (place i)) (strayIn (i + 1) b es) (stray (i + suc (length es)) ls) (pageNo (place i))
+    (pageNo b) (pageNo (toPage e)))
 
 pick-pick : (s t : Bool) (x y : ℕ) → pick s x (pick t x y) ≡ pick (pick s true t) x y
 unfolding pick
@@ -102,7 +103,13 @@ module _ (w : List ℕ) (i at n : ℕ) (e : stray 0 (leavesOf (pages w)) ≡ str
     step =
         let s : q < 64 = omega (arith, ahead-base w at n a more q f) in
         let l : length (rows 8 (page q w)) ≡ m = length-rows 8 (page q w) ∙ sym g in
-        e ∙ rw (leaves-next w n at w q f s more, stray-under (pages w) i q (rows 8 (page q w)) (leavesBelow (pages w) (rowsOf 8 (n - 1) (drop (at + 8) w))), l, k, base-rows w q m g)
+        e ∙ rw (
+          leaves-next w n at w q f s more,
+          stray-under (pages w) i q (rows 8 (page q w)) (leavesBelow (pages w) (rowsOf 8 (n - 1) (drop (at + 8) w))),
+          l,
+          k,
+          base-rows w q m g,
+        )
 
     pub leaf-stop! : {want b p : PageNo} → r ≡ At want b p → r ≡ stray 0 (leavesOf (pages w))
     unfolding onward

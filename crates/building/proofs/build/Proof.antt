@@ -13,7 +13,8 @@ use Rattle.building.proofs.build.Statement.{statement}
 use Rattle.building.proofs.build.Tie as tie
 
 -- the fills are in range, where that was tested
-ranges : (c : tie.Else4) → let a = c .before .before .before .before .before .before .before .before .before in (1 ≤ a .args .f) × (a .args .f ≤ 15) × (1 ≤ a .args .g) × (a .args .g ≤ 30)
+ranges : (c : tie.Else4) → let c9 = c .before .before .before .before .before .before .before .before .before in
+    let a = c9 in (1 ≤ a .args .f) × (a .args .f ≤ 15) × (1 ≤ a .args .g) × (a .args .g ≤ 30)
 ranges c = range-facts _ _ _ (sym (c .before .in-range .ensures) ∙ not-false _ (c .if4 .left))
 
 -- all tests are passed

@@ -22,7 +22,12 @@ inside : (c : tie.After-source-at) → c .source-at .result + 20 + 16 * c .befor
 inside c =
     let k = c .before .before in
     let a = k .before .before in
-    omega (arith, in-inside (a .args .work .now) (unit-open k) (a .args .org .0) (a .args .dest .0) (a .args .back) (a .pre .3) _ _ (c .before .source-rows .ensures) (c .source-at .ensures), a .pre .1)
+    omega (
+      arith,
+      in-inside (a .args .work .now) (unit-open k) (a .args .org .0) (a .args .dest .0) (a .args .back) (a .pre .3) _ _
+          (c .before .source-rows .ensures) (c .source-at .ensures),
+      a .pre .1,
+    )
 
 source-rows-requires : tie.Need-source-rows-requires
 source-rows-requires c κs = search needs
@@ -57,7 +62,8 @@ can-bring-in-requires c κs =
     let k = n .before .before in
     let a = k .before .before in
     let s = unit-open k in
-    let some-rows = in-some (a .args .work .now) s (a .args .org .0) (a .args .dest .0) (a .args .back) (a .pre .3) _ _ (n .before .source-rows .ensures) (n .source-at .ensures) in (
+    let some-rows = in-some (a .args .work .now) s (a .args .org .0) (a .args .dest .0) (a .args .back) (a .pre .3) _ _ (n .before .source-rows .ensures)
+    (n .source-at .ensures) in (
       (a .pre .0, omega (arith, placed k .1)),
       (
         some-rows .0,
@@ -79,7 +85,8 @@ returns c =
     let n = z .before .before .before .before in
     let k = n .before .before in
     let a = k .before .before in
-    in-refused (a .args .work .now) (unit-open k) (a .args .org .0) (a .args .dest .0) (a .args .back) (a .pre .3) _ _ (n .before .source-rows .ensures) (n .source-at .ensures) _ (z .can-bring-in .ensures) (c .if1 .taken)
+    in-refused (a .args .work .now) (unit-open k) (a .args .org .0) (a .args .dest .0) (a .args .back) (a .pre .3) _ _ (n .before .source-rows .ensures)
+    (n .source-at .ensures) _ (z .can-bring-in .ensures) (c .if1 .taken)
 
 admitted-requires : tie.Need-admitted-requires
 admitted-requires c κs = search needs
@@ -97,7 +104,8 @@ returns-2 c =
     let n = z .before .before .before .before in
     let k = n .before .before in
     let a = k .before .before in
-    in-stopped (a .args .work .now) (unit-open k) (a .args .org .0) (a .args .dest .0) (a .args .back) (a .pre .3) _ _ (n .before .source-rows .ensures) (n .source-at .ensures) _ (z .can-bring-in .ensures) (e .if1 .left) _ (c .before .admitted .ensures) (c .if2 .taken)
+    in-stopped (a .args .work .now) (unit-open k) (a .args .org .0) (a .args .dest .0) (a .args .back) (a .pre .3) _ _ (n .before .source-rows .ensures)
+    (n .source-at .ensures) _ (z .can-bring-in .ensures) (e .if1 .left) _ (c .before .admitted .ensures) (c .if2 .taken)
 
 add-t25 : tie.Need-add-t25
 add-t25 c = let t = tested-ok _ _ (sym (c .before .before .admitted .ensures) ∙ c .before .if2 .left) in record { fits = omega (arith, t .1) }
@@ -119,7 +127,8 @@ bring-in-requires c κs =
     let k = n .before .before in
     let a = k .before .before in
     let s = unit-open k in
-    let some-rows = in-some (a .args .work .now) s (a .args .org .0) (a .args .dest .0) (a .args .back) (a .pre .3) _ _ (n .before .source-rows .ensures) (n .source-at .ensures) in (
+    let some-rows = in-some (a .args .work .now) s (a .args .org .0) (a .args .dest .0) (a .args .back) (a .pre .3) _ _ (n .before .source-rows .ensures)
+    (n .source-at .ensures) in (
       (a .pre .0, omega (arith, placed k .1)),
       (
         some-rows .0,
@@ -134,8 +143,15 @@ put-in-requires c κs =
     let t = c .before .before .before .before .before .before .before .before in
     let n = t .before .before .before .before .before .before .before .before .before in
     let k = n .before .before in
-    let a = k .before .before in
-    (omega arith, omega (arith, a .pre .1, in-room (a .args .work .now) (unit-open k) (a .args .org .0) (a .args .dest .0) (a .args .back) (a .pre .3) (sym (t .before .admitted .ensures) ∙ t .if2 .left)))
+    let a = k .before .before in (
+      omega arith,
+      omega (
+        arith,
+        a .pre .1,
+        in-room (a .args .work .now) (unit-open k) (a .args .org .0) (a .args .dest .0) (a .args .back) (a .pre .3)
+            (sym (t .before .admitted .ensures) ∙ t .if2 .left),
+      ),
+    )
 
 same-length-5 : tie.Need-same-length-5
 same-length-5 c = search needs
@@ -145,13 +161,16 @@ same-length-6 c = search needs
 
 returns-3 : tie.Need-returns-3
 returns-3 c =
+    let c6 = c .before .before .before .before .before .before in
     let t = c .before .before .before .before .before .before .before .before .before .before .before in
     let e = t .before .before .before .before in
     let z = e .before in
     let n = z .before .before .before .before in
     let k = n .before .before in
     let a = k .before .before in
-    in-goes (a .args .work .now) (unit-open k) (a .args .org .0) (a .args .dest .0) (a .args .back) (a .pre .3) _ _ (n .before .source-rows .ensures) (n .source-at .ensures) _ (z .can-bring-in .ensures) (e .if1 .left) _ (t .before .admitted .ensures) (t .if2 .left) _ _ _ (c .before .before .before .before .before .before .bring-in .ensures) (c .before .before .put-in .ensures)
+    in-goes (a .args .work .now) (unit-open k) (a .args .org .0) (a .args .dest .0) (a .args .back) (a .pre .3) _ _ (n .before .source-rows .ensures)
+    (n .source-at .ensures) _ (z .can-bring-in .ensures) (e .if1 .left) _ (t .before .admitted .ensures) (t .if2 .left) _ _ _ (c6 .bring-in .ensures)
+    (c .before .before .put-in .ensures)
 
 pub append-in-spec : {M : Type 1} → statement M
 append-in-spec =

@@ -21,20 +21,25 @@ placed : (c : tie.After-slice-known2) → Leafy (c .before .before .args .org .0
 placed c = step-keeps (unit-open c) _ (c .before .before .pre .3)
 
 -- that page is a leaf
-leaf : (c : tie.Else1) → isLeaf (page (c .before .before .before .before .before .before .before .args .org .0) (c .before .before .before .before .before .before .before .args .work .now)) ≡ true
+leaf : (c : tie.Else1) → let c7 = c .before .before .before .before .before .before .before in
+    isLeaf (page (c7 .args .org .0) (c7 .args .work .now)) ≡ true
 leaf c =
     let k = c .before .before .before .before .before in
-    out-leaf (k .before .before .args .work .now) (unit-open k) (k .before .before .args .org .0) (k .before .before .args .dest .0) (k .before .before .pre .3) _ (c .before .is-leaf .ensures) (c .if1 .left)
+    out-leaf (k .before .before .args .work .now) (unit-open k) (k .before .before .args .org .0) (k .before .before .args .dest .0) (k .before .before .pre .3)
+    _ (c .before .is-leaf .ensures) (c .if1 .left)
 
 -- how many records it has, and that there is room for them
-counted : (c : tie.After-count-at) → (c .count-at .result ≤ 15) × (c .before .before .before .before .before .before .before .before .before .before .before .before .before .before .before .args .w .at + 20 + 16 * c .count-at .result ≤ 8192)
+counted : (c : tie.After-count-at) → let c15 = c .before .before .before .before .before .before .before .before .before .before .before .before .before .before .before in
+    (c .count-at .result ≤ 15) × (c15 .args .w .at + 20 + 16 * c .count-at .result ≤ 8192)
 counted c =
+    let c4 = c .before .before .before .before in
+    let c5 = c4 .before in
     let e = c .before .before .before .before .before .before .before .before in
     let k = e .before .before .before .before .before in
     let a = k .before .before in
-    let t = c .before .before .before .before .before .admitted in (
-      out-few (a .args .work .now) (unit-open k) (a .args .org .0) (a .args .dest .0) (a .pre .3) (leaf e) _ (t .ensures) (c .before .before .before .before .if2 .left) _ (c .count-at .ensures),
-      out-room (a .args .work .now) (unit-open k) (a .args .org .0) (a .args .dest .0) (a .pre .3) (leaf e) _ (t .ensures) (c .before .before .before .before .if2 .left) _ (c .count-at .ensures),
+    let t = c5 .admitted in (
+      out-few (a .args .work .now) (unit-open k) (a .args .org .0) (a .args .dest .0) (a .pre .3) (leaf e) _ (t .ensures) (c4 .if2 .left) _ (c .count-at .ensures),
+      out-room (a .args .work .now) (unit-open k) (a .args .org .0) (a .args .dest .0) (a .pre .3) (leaf e) _ (t .ensures) (c4 .if2 .left) _ (c .count-at .ensures),
     )
 
 cast-from : tie.Need-cast-from
@@ -122,8 +127,11 @@ put-out-requires : tie.Need-put-out-requires
 put-out-requires c κs =
     let n = c .before .before .before in
     let k = n .before .before .before .before .before .before .before .before .before .before .before .before .before in
-    let a = k .before .before in
-    ((counted n .0, omega arith, omega (arith, counted n .1, a .pre .1)), length-lent (256 * a .args .org .0 + 16) _ (a .args .work .now) (omega (arith, counted n .0, placed k .1, a .pre .0)))
+    let a = k .before .before in (
+      (counted n .0, omega arith, omega (arith, counted n .1, a .pre .1)),
+      length-lent (256 * a .args .org .0 + 16) _ (a .args .work .now)
+          (omega (arith, counted n .0, placed k .1, a .pre .0)),
+    )
 
 take-all-requires : tie.Need-take-all-requires
 take-all-requires c κs =
@@ -139,11 +147,14 @@ same-length-5 c = search needs
 
 returns-3 : tie.Need-returns-3
 returns-3 c =
+    let c6 = c .before .before .before .before .before .before in
     let n = c .before .before .before .before .before .before .before .before .before .before in
     let e = n .before .before .before .before .before .before .before .before in
     let k = e .before .before .before .before .before in
     let a = k .before .before in
-    out-goes (a .args .work .now) (unit-open k) (a .args .org .0) (a .args .dest .0) (a .pre .3) (leaf e) _ (n .before .before .before .before .before .admitted .ensures) (n .before .before .before .before .if2 .left) _ (n .count-at .ensures) _ _ (a .pre .0) (omega (arith, placed k .1)) (c .before .before .take-all .ensures) (c .before .before .before .before .before .before .put-out .ensures)
+    out-goes (a .args .work .now) (unit-open k) (a .args .org .0) (a .args .dest .0) (a .pre .3) (leaf e) _
+    (n .before .before .before .before .before .admitted .ensures) (n .before .before .before .before .if2 .left) _ (n .count-at .ensures) _ _ (a .pre .0)
+    (omega (arith, placed k .1)) (c .before .before .take-all .ensures) (c6 .put-out .ensures)
 
 pub append-out-spec : {M : Type 1} → statement M
 append-out-spec =

@@ -18,11 +18,13 @@ unit-open : (c : tie.After-slice-known2) → Stands (c .before .before .args .lo
 unit-open c = stands (c .before .before .args .log .now) (c .before .before .args .w) (λ i. omega (arith, c .slice-known2 .given i)) (c .before .before .pre .2)
 
 -- the unit's next step changes a base page, and points to a leaf page or removes
-placed : (c : tie.After-slice-known2) → StepKeeps (point (c .before .before .args .base .0) (c .before .before .args .old .0) (c .before .before .args .new .0) (c .before .before .args .other))
+placed : (c : tie.After-slice-known2) → StepKeeps (point (c .before .before .args .base .0) (c .before .before .args .old .0) (c .before .before .args .new .0)
+    (c .before .before .args .other))
 placed c = step-keeps (unit-open c) _ (c .before .before .pre .3)
 
 -- that page is a base page
-based : (c : tie.Else1) → isBase (page (c .before .before .before .before .before .before .before .args .base .0) (c .before .before .before .before .before .before .before .args .work .now)) ≡ true
+based : (c : tie.Else1) → let c7 = c .before .before .before .before .before .before .before in
+    isBase (page (c7 .args .base .0) (c7 .args .work .now)) ≡ true
 based c =
     let k = c .before .before .before .before .before in
     let a = k .before .before in
@@ -56,7 +58,8 @@ returns : tie.Need-returns
 returns c =
     let k = c .before .before .before .before .before in
     let a = k .before .before in
-    point-refused (a .args .work .now) (unit-open k) (a .args .base .0) (a .args .old .0) (a .args .new .0) (a .args .other) (a .pre .3) _ (c .before .is-base .ensures) (c .if1 .taken)
+    point-refused (a .args .work .now) (unit-open k) (a .args .base .0) (a .args .old .0) (a .args .new .0) (a .args .other) (a .pre .3) _
+    (c .before .is-base .ensures) (c .if1 .taken)
 
 lowest-at-requires : tie.Need-lowest-at-requires
 lowest-at-requires c κs =
@@ -95,7 +98,8 @@ returns-3 c =
     let r = t .before .before in
     let k = r .before .before .before .before .before .before .before in
     let a = k .before .before in
-    point-stuck (a .args .work .now) (unit-open k) (a .args .base .0) (a .args .old .0) (a .args .new .0) (a .args .other) (a .pre .3) _ (r .lowest-at .ensures) _ (t .key .given .1) _ (c .before .can-modify .ensures) (c .if2 .taken)
+    point-stuck (a .args .work .now) (unit-open k) (a .args .base .0) (a .args .old .0) (a .args .new .0) (a .args .other) (a .pre .3) _ (r .lowest-at .ensures)
+    _ (t .key .given .1) _ (c .before .can-modify .ensures) (c .if2 .taken)
 
 admitted-requires : tie.Need-admitted-requires
 admitted-requires c κs = search needs
@@ -113,7 +117,8 @@ returns-4 c =
     let r = t .before .before in
     let k = r .before .before .before .before .before .before .before in
     let a = k .before .before in
-    point-stopped (a .args .work .now) (unit-open k) (a .args .base .0) (a .args .old .0) (a .args .new .0) (a .args .other) (a .pre .3) _ (r .lowest-at .ensures) _ (t .key .given .1) _ (e .before .can-modify .ensures) (e .if2 .left) _ (c .before .admitted .ensures) (c .if3 .taken)
+    point-stopped (a .args .work .now) (unit-open k) (a .args .base .0) (a .args .old .0) (a .args .new .0) (a .args .other) (a .pre .3) _
+    (r .lowest-at .ensures) _ (t .key .given .1) _ (e .before .can-modify .ensures) (e .if2 .left) _ (c .before .admitted .ensures) (c .if3 .taken)
 
 add-t28 : tie.Need-add-t28
 add-t28 c = let t = tested-ok _ _ (sym (c .before .before .admitted .ensures) ∙ c .before .if3 .left) in record { fits = omega (arith, t .1) }
@@ -131,8 +136,15 @@ put-modify-requires c κs =
     let e = h .before .before .before .before in
     let r = e .before .before .before .before .before .before in
     let k = r .before .before .before .before .before .before .before in
-    let a = k .before .before in
-    (omega arith, omega (arith, a .pre .1, point-room (a .args .work .now) (unit-open k) (a .args .base .0) (a .args .old .0) (a .args .new .0) (a .args .other) (a .pre .3) (sym (h .before .admitted .ensures) ∙ h .if3 .left)))
+    let a = k .before .before in (
+      omega arith,
+      omega (
+        arith,
+        a .pre .1,
+        point-room (a .args .work .now) (unit-open k) (a .args .base .0) (a .args .old .0) (a .args .new .0) (a .args .other)
+            (a .pre .3) (sym (h .before .admitted .ensures) ∙ h .if3 .left),
+      ),
+    )
 
 same-length-6 : tie.Need-same-length-6
 same-length-6 c = search needs
@@ -142,13 +154,16 @@ same-length-7 c = search needs
 
 returns-5 : tie.Need-returns-5
 returns-5 c =
+    let c6 = c .before .before .before .before .before .before in
     let h = c .before .before .before .before .before .before .before .before .before in
     let e = h .before .before .before .before in
     let t = e .before .before .before .before in
     let r = t .before .before in
     let k = r .before .before .before .before .before .before .before in
     let a = k .before .before in
-    point-goes (a .args .work .now) (unit-open k) (a .args .base .0) (a .args .old .0) (a .args .new .0) (a .args .other) (a .pre .3) _ (r .lowest-at .ensures) _ (t .key .given .1) _ (e .before .can-modify .ensures) (e .if2 .left) _ (h .before .admitted .ensures) (h .if3 .left) _ _ _ (c .before .before .before .before .before .before .modify .ensures) (c .before .before .put-modify .ensures)
+    point-goes (a .args .work .now) (unit-open k) (a .args .base .0) (a .args .old .0) (a .args .new .0) (a .args .other) (a .pre .3) _ (r .lowest-at .ensures)
+    _ (t .key .given .1) _ (e .before .can-modify .ensures) (e .if2 .left) _ (h .before .admitted .ensures) (h .if3 .left) _ _ _ (c6 .modify .ensures)
+    (c .before .before .put-modify .ensures)
 
 pub append-point-spec : {M : Type 1} → statement M
 append-point-spec =

@@ -40,8 +40,15 @@ repeat-in-requires : tie.Need-repeat-in-requires
 repeat-in-requires c κs =
     let a = c .before .before .before .before .before .before .before in
     let k = c .before .before .before in
-    let i = c .before .before .before .before in
-    ((search needs, omega arith), (omega arith, omega arith, rows-long (a .args .log .now) (i .source-at .result + 20) (k .source-rows .result) (omega arith), in-order (a .args .log .now) (a .args .w) _ _ _ (i .source-at .ensures) (k .source-rows .ensures) (a .pre .2 .4) (a .pre .2 .5)))
+    let i = c .before .before .before .before in (
+      (search needs, omega arith),
+      (
+        omega arith,
+        omega arith,
+        rows-long (a .args .log .now) (i .source-at .result + 20) (k .source-rows .result) (omega arith),
+        in-order (a .args .log .now) (a .args .w) _ _ _ (i .source-at .ensures) (k .source-rows .ensures) (a .pre .2 .4) (a .pre .2 .5),
+      ),
+    )
 
 same-length : tie.Need-same-length
 same-length c = search needs
@@ -51,7 +58,8 @@ returns c =
     let a = c .before .before .before .before .before .before .before .before .before .before in
     let k = c .before .before .before .before .before .before in
     let i = c .before .before .before .before .before .before .before in
-    (λ org. in-redone (a .args .log .now) (a .args .w) _ _ _ (i .source-at .ensures) (k .source-rows .ensures) (a .pre .2 .4) _ _ _ _ org _ (c .before .before .repeat-in .ensures org (a .args .back)))
+    (λ org. in-redone (a .args .log .now) (a .args .w) _ _ _ (i .source-at .ensures) (k .source-rows .ensures) (a .pre .2 .4) _ _ _ _ org _
+    (c .before .before .repeat-in .ensures org (a .args .back)))
 
 pub in-again-spec : {M : Type 1} → statement M
 in-again-spec =

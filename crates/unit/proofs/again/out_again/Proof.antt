@@ -42,8 +42,9 @@ same-length c = search needs
 
 returns : tie.Need-returns
 returns c =
+    let c6 = c .before .before .before .before .before .before in
     let a = c .before .before .before .before .before .before .before .before .before .before .before in
-    (λ dest. out-redone _ (a .args .log .now) (a .args .w) _ _ _ _ dest _ (c .before .before .before .before .before .before .get2 .ensures) (a .pre .2 .1) (c .before .before .repeat-out .ensures dest))
+    (λ dest. out-redone _ (a .args .log .now) (a .args .w) _ _ _ _ dest _ (c6 .get2 .ensures) (a .pre .2 .1) (c .before .before .repeat-out .ensures dest))
 
 pub out-again-spec : {M : Type 1} → statement M
 out-again-spec =

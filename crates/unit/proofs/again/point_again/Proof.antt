@@ -21,8 +21,9 @@ same-length c = search needs
 
 returns : tie.Need-returns
 returns c =
+    let c5 = c .before .before .before .before .before in
     let a = c .before .before .before .before .before .before .before .before .before in
-    (λ other. point-redone _ (a .args .log .now) (a .args .w) _ _ _ _ _ _ _ other (c .before .before .before .before .before .get4 .ensures) (c .before .before .repeat-modify .ensures))
+    (λ other. point-redone _ (a .args .log .now) (a .args .w) _ _ _ _ _ _ _ other (c5 .get4 .ensures) (c .before .before .repeat-modify .ensures))
 
 pub point-again-spec : {M : Type 1} → statement M
 point-again-spec =

@@ -26,16 +26,23 @@ step-at-requires c κs =
 
 step-again-requires : tie.Need-step-again-requires
 step-again-requires c κs =
-    let a = c .before .before .before .before .before .before .before in
-    (search needs, a .pre .1 .number, redone-reads (a .args .log .now) (a .args .w) (a .args .work .now) (c .before .before .before .if1 .left) _ (step-lent (a .args .log .now) (a .args .w) _ (c .before .step-at .ensures)) (a .pre .1))
+    let a = c .before .before .before .before .before .before .before in (
+      search needs,
+      a .pre .1 .number,
+      redone-reads (a .args .log .now) (a .args .w) (a .args .work .now) (c .before .before .before .if1 .left) _
+          (step-lent (a .args .log .now) (a .args .w) _ (c .before .step-at .ensures)) (a .pre .1),
+    )
 
 same-length : tie.Need-same-length
 same-length c = search needs
 
 returns-2 : tie.Need-returns-2
 returns-2 c =
+    let c4 = c .before .before .before .before in
+    let c6 = c4 .before .before in
     let a = c .before .before .before .before .before .before .before .before .before .before in
-    redone-open! (a .args .log .now) (a .args .w) (a .args .work .now) (c .before .before .before .before .before .before .if1 .left) _ (step-lent (a .args .log .now) (a .args .w) _ (c .before .before .before .before .step-at .ensures)) _ _ (c .before .before .step-again .ensures)
+    redone-open! (a .args .log .now) (a .args .w) (a .args .work .now) (c6 .if1 .left) _ (step-lent (a .args .log .now) (a .args .w) _ (c4 .step-at .ensures)) _
+    _ (c .before .before .step-again .ensures)
 
 pub repeat-at-spec : {M : Type 1} → statement M
 repeat-at-spec =

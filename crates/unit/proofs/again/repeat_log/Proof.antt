@@ -39,27 +39,48 @@ same-length c = search needs
 
 returns : tie.Need-returns Inv-loop μ-loop
 returns c =
+    let c5 = c .before .before .before .before .before in
+    let c6 = c5 .before in
+    let c7 = c6 .before in
+    let c9 = c7 .before .before in
     let a = c .before .before .before .before .before .before .before .before .before .before .before in
-    let y : Bytes (a .args .log .now) = λ i. omega (arith, c .before .before .before .before .before .before .before .before .before .shared-slice-known .given i) in
-    going-stops (a .args .log .now) (a .args .work .now) _ _ y (c .before .before .before .before .before .before .before .loop .inv) (sym (c .before .before .before .before .before .before .live .ensures) ∙ c .before .before .before .before .before .if1 .taken) _ _ (c .before .before .before .repeat-at .ensures) (c .if2 .taken)
+    let y : Bytes (a .args .log .now) = λ i. omega (arith, c9 .shared-slice-known .given i) in
+    going-stops (a .args .log .now) (a .args .work .now) _ _ y (c7 .loop .inv) (sym (c6 .live .ensures) ∙ c5 .if1 .taken) _ _
+    (c .before .before .before .repeat-at .ensures) (c .if2 .taken)
 
 past-requires : tie.Need-past-requires Inv-loop μ-loop
 past-requires c κs =
+    let c5 = c .before .before .before .before .before in
+    let c6 = c5 .before in
+    let c7 = c6 .before in
+    let c9 = c7 .before .before in
     let a = c .before .before .before .before .before .before .before .before .before .before .before in
-    let y : Bytes (a .args .log .now) = λ i. omega (arith, c .before .before .before .before .before .before .before .before .before .shared-slice-known .given i) in
-    going-past (a .args .log .now) (a .args .work .now) _ _ y (c .before .before .before .before .before .before .before .loop .inv) (sym (c .before .before .before .before .before .before .live .ensures) ∙ c .before .before .before .before .before .if1 .taken)
+    let y : Bytes (a .args .log .now) = λ i. omega (arith, c9 .shared-slice-known .given i) in
+    going-past (a .args .log .now) (a .args .work .now) _ _ y (c7 .loop .inv) (sym (c6 .live .ensures) ∙ c5 .if1 .taken)
 
 loop-less : tie.Need-loop-less Inv-loop μ-loop
 loop-less c =
+    let c4 = c .before .before .before .before in
+    let c6 = c4 .before .before in
+    let c7 = c6 .before in
+    let c8 = c7 .before in
+    let c10 = c8 .before .before in
     let a = c .before .before .before .before .before .before .before .before .before .before .before .before in
-    let y : Bytes (a .args .log .now) = λ i. omega (arith, c .before .before .before .before .before .before .before .before .before .before .shared-slice-known .given i) in
-    going-less (a .args .log .now) (a .args .work .now) _ _ y (c .before .before .before .before .before .before .before .before .loop .inv) (sym (c .before .before .before .before .before .before .before .live .ensures) ∙ c .before .before .before .before .before .before .if1 .taken) _ _ (c .before .before .before .before .repeat-at .ensures) (c .before .if2 .left) _ (c .past .ensures)
+    let y : Bytes (a .args .log .now) = λ i. omega (arith, c10 .shared-slice-known .given i) in
+    going-less (a .args .log .now) (a .args .work .now) _ _ y (c8 .loop .inv) (sym (c7 .live .ensures) ∙ c6 .if1 .taken) _ _ (c4 .repeat-at .ensures)
+    (c .before .if2 .left) _ (c .past .ensures)
 
 loop-again : tie.Need-loop-again Inv-loop μ-loop
 loop-again c =
+    let c4 = c .before .before .before .before in
+    let c6 = c4 .before .before in
+    let c7 = c6 .before in
+    let c8 = c7 .before in
+    let c10 = c8 .before .before in
     let a = c .before .before .before .before .before .before .before .before .before .before .before .before in
-    let y : Bytes (a .args .log .now) = λ i. omega (arith, c .before .before .before .before .before .before .before .before .before .before .shared-slice-known .given i) in
-    going-more (a .args .log .now) (a .args .work .now) _ _ y (c .before .before .before .before .before .before .before .before .loop .inv) (sym (c .before .before .before .before .before .before .before .live .ensures) ∙ c .before .before .before .before .before .before .if1 .taken) _ _ (c .before .before .before .before .repeat-at .ensures) (c .before .if2 .left) _ (c .past .ensures) (c .before .before .before .before .repeat-at .kept .0)
+    let y : Bytes (a .args .log .now) = λ i. omega (arith, c10 .shared-slice-known .given i) in
+    going-more (a .args .log .now) (a .args .work .now) _ _ y (c8 .loop .inv) (sym (c7 .live .ensures) ∙ c6 .if1 .taken) _ _ (c4 .repeat-at .ensures)
+    (c .before .if2 .left) _ (c .past .ensures) (c4 .repeat-at .kept .0)
 
 same-length-2 : tie.Need-same-length-2 Inv-loop μ-loop
 same-length-2 c = search needs

@@ -39,8 +39,15 @@ remove-at-requires : tie.Need-remove-at-requires
 remove-at-requires c κs =
     let i = c .before .before .before .entry-at in
     let e = c .before .before .before .before .before in
-    let t = e .before .can-modify in
-    (search needs, (modify-base _ _ _ _ _ (t .result) (t .ensures) (e .if1 .left), modify-inside _ _ _ _ _ (t .result) (t .ensures) (e .if1 .left) _ (i .ensures), modify-others _ _ _ _ _ (t .result) (t .ensures) (e .if1 .left) (c .before .if2 .left)))
+    let t = e .before .can-modify in (
+      search needs,
+      (
+        modify-base _ _ _ _ _ (t .result) (t .ensures) (e .if1 .left),
+        modify-inside _ _ _ _ _ (t .result) (t .ensures) (e .if1 .left) _
+            (i .ensures),
+        modify-others _ _ _ _ _ (t .result) (t .ensures) (e .if1 .left) (c .before .if2 .left),
+      ),
+    )
 
 same-length-3 : tie.Need-same-length-3
 same-length-3 c = search needs

@@ -14,7 +14,8 @@ returns : tie.Need-returns
 returns c =
     let s = c .before in
     let a = s .before .before .before .before in
-    (λ org back. did-old _ (a .args .dest .0) (in-target org _ back _) (a .args .n .0) (a .args .w .now) (s .stamped .result) (s .stamped .ensures) (a .pre .0 .0) (a .pre .0 .1) (c .if1 .taken))
+    (λ org back. did-old _ (a .args .dest .0) (in-target org _ back _) (a .args .n .0) (a .args .w .now) (s .stamped .result) (s .stamped .ensures)
+    (a .pre .0 .0) (a .pre .0 .1) (c .if1 .taken))
 
 bring-in-requires : tie.Need-bring-in-requires
 bring-in-requires c κs = search needs
@@ -24,9 +25,11 @@ same-length-2 c = search needs
 
 returns-2 : tie.Need-returns-2
 returns-2 c =
+    let c4 = c .before .before .before .before in
     let s = c .before .before .before .before .before in
     let a = s .before .before .before .before in
-    (λ org back. did-new _ (a .args .dest .0) (in-target org _ back _) (a .args .n .0) (a .args .w .now) (s .stamped .result) (s .stamped .ensures) (c .before .before .before .before .if1 .left) _ _ (c .before .before .bring-in .ensures org back))
+    (λ org back. did-new _ (a .args .dest .0) (in-target org _ back _) (a .args .n .0) (a .args .w .now) (s .stamped .result) (s .stamped .ensures)
+    (c4 .if1 .left) _ _ (c .before .before .bring-in .ensures org back))
 
 pub repeat-in-spec : {M : Type 1} → statement M
 repeat-in-spec =

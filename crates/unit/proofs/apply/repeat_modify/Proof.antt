@@ -24,9 +24,11 @@ same-length-2 c = search needs
 
 returns-2 : tie.Need-returns-2
 returns-2 c =
+    let c4 = c .before .before .before .before in
     let s = c .before .before .before .before .before in
     let a = s .before .before .before in
-    did-new _ (a .args .base .0) (modify-target _ _ _ _) (a .args .n .0) (a .args .w .now) (s .stamped .result) (s .stamped .ensures) (c .before .before .before .before .if1 .left) _ _ (c .before .before .modify .ensures)
+    did-new _ (a .args .base .0) (modify-target _ _ _ _) (a .args .n .0) (a .args .w .now) (s .stamped .result) (s .stamped .ensures) (c4 .if1 .left) _ _
+    (c .before .before .modify .ensures)
 
 pub repeat-modify-spec : {M : Type 1} → statement M
 repeat-modify-spec =

@@ -43,7 +43,8 @@ returns-2 c =
     let e = m .before .before in
     let t = e .before in
     let a = t .before .before .before .before .before .before in
-    out-done (a .args .w .now) (a .args .org .0) (a .args .n .0) (a .args .k) (a .args .rs .now) (a .pre .2) (t .holds .result) (t .holds .ensures) (e .if1 .left) _ (m .take-all .ensures)
+    out-done (a .args .w .now) (a .args .org .0) (a .args .n .0) (a .args .k) (a .args .rs .now) (a .pre .2) (t .holds .result) (t .holds .ensures)
+    (e .if1 .left) _ (m .take-all .ensures)
 
 pub take-out-spec : {M : Type 1} → statement M
 take-out-spec =

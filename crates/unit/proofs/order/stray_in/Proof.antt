@@ -52,7 +52,8 @@ loop-again c =
       omega arith,
       omega arith,
       omega arith,
-      stray-more! (a .b) (l .loop .i) (a .first) (a .n) 16 (l .loop .left) (l .loop .at) (a .pg .now) (l .loop .inv .3) _ (k .place .result) (k .before .get2 .ensures) (k .place .ensures) (k .before .before .loop-test .taken) (c .if1 .left),
+      stray-more! (a .b) (l .loop .i) (a .first) (a .n) 16 (l .loop .left) (l .loop .at) (a .pg .now) (l .loop .inv .3) _ (k .place .result)
+          (k .before .get2 .ensures) (k .place .ensures) (k .before .before .loop-test .taken) (c .if1 .left),
     )
 
 returns-2 : tie.Need-returns-2 Inv-loop μ-loop

@@ -31,7 +31,8 @@ few : (c : tie.After-count-at2 Inv-loop μ-loop) → c .count-at2 .result ≤ 30
 few c =
     let g = c .before .before in
     let l = g .before .before in
-    base-count (l .before .before .before .args .w .now) (l .loop .at) (l .loop .left) (l .loop .inv .0) (g .before .loop-test .taken) (g .get2 .result) (g .get2 .ensures) (c .count-at2 .result) (c .count-at2 .ensures)
+    base-count (l .before .before .before .args .w .now) (l .loop .at) (l .loop .left) (l .loop .inv .0) (g .before .loop-test .taken) (g .get2 .result)
+    (g .get2 .ensures) (c .count-at2 .result) (c .count-at2 .ensures)
 
 count-at-requires : tie.Need-count-at-requires Inv-loop μ-loop
 count-at-requires c κs = omega arith

@@ -22,7 +22,9 @@ abbrev μ-loop : tie.MeasureT-loop
 few : (c : tie.At-loop Inv-loop μ-loop) → c .loop .i < 25
 few c = omega (arith, plan-few _ (c .before .before .before .pre .2), c .loop .inv .1)
 
-more : (c : tie.Else1 Inv-loop μ-loop) → c .before .before .before .before .loop .i + 1 < length (plan (readBegin (c .before .before .before .before .before .before .before .args .unit .0) (c .before .before .before .before .before .before .before .args .m .now)))
+more : (c : tie.Else1 Inv-loop μ-loop) → let c4 = c .before .before .before .before in
+    let c7 = c4 .before .before .before in
+    c4 .loop .i + 1 < length (plan (readBegin (c7 .args .unit .0) (c7 .args .m .now)))
 more c =
     let s = c .before .before .before in
     let l = s .before in

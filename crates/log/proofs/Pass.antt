@@ -214,12 +214,17 @@ no-mark : record { ends = false; number = logNo 0 } ≡ markOf none
 unfolding markOf there given
 no-mark = refl
 
+-- the answer that a check record gives
+abbrev told : (l : List ℕ) (f : ℕ) → Option Check → Scan
+told l f y =
+    given (bind y (λ c. bind (readRecs (length l) (first c) (drop (lengthOf check 0) l)) (λ rs. some (record { top = c; recs = rs })))) (answer lost none)
+    (λ g. answer (shown (atEnd g)) (lastForced f g))
+
 start-by : (l : List ℕ) (f : ℕ) (w : Walk) (e : Mark) → Bytes l → w ≡ topped l → e ≡ markOf none → (x : Option Check) → readCheck l ≡ x → Pass l f w e
 unfolding topped scanned readLog bind
 start-by l f w e b q m none r =
     pass-lost l f w e (q ∙ ap (λ (y : Option Check). given y lost (λ c. shown (first c))) r ∙ top-none)
-    (ap (λ (y : Option Check). given (bind y (λ c. bind (readRecs (length l) (first c) (drop (lengthOf check 0) l)) (λ rs. some (record { top = c; recs = rs })))) (answer lost none) (λ g. answer (shown (atEnd g)) (lastForced f g))) r
-    ∙ scan-none f)
+    (ap (told l f) r ∙ scan-none f)
 start-by l f w e b q m (some c) r =
     let t = readCheck-facts l c r in
     pass-on l f w e (record {
@@ -230,7 +235,7 @@ start-by l f w e b q m (some c) r =
       shows = q ∙ ap (λ (y : Option Check). given y lost (λ c. shown (first c))) r ∙ top-some c;
       marks = m;
       enough = first-enough l c (t .short);
-      same = ap (λ (y : Option Check). given (bind y (λ c. bind (readRecs (length l) (first c) (drop (lengthOf check 0) l)) (λ rs. some (record { top = c; recs = rs })))) (answer lost none) (λ g. answer (shown (atEnd g)) (lastForced f g))) r
+      same = ap (told l f) r
           ∙ given-bind (readRecs (length l) (first c) (drop (lengthOf check 0) l)) (answer lost none) (λ rs. record { top = c; recs = rs }) (λ g. answer (shown (atEnd g)) (lastForced f g))
           ∙ first-rest l f c;
     })
@@ -277,7 +282,9 @@ recs-none g s m k = refl
 recs-some : (g : ℕ) (s : State) (m : List ℕ) (r : Rec) (k : List Rec → Scan)
     → given (bind (some r) (λ r. bind (readRecs g (after s r) (drop (size r) m)) (λ rs. some (r ∷ rs)))) (answer lost none) k
     ≡ given (readRecs g (after s r) (drop (size r) m)) (answer lost none) (λ rs. k (r ∷ rs))
-recs-some g s m r k = bind-first r (λ r. bind (readRecs g (after s r) (drop (size r) m)) (λ rs. some (r ∷ rs))) k ∙ given-bind (readRecs g (after s r) (drop (size r) m)) (answer lost none) (λ rs. r ∷ rs) k
+recs-some g s m r k =
+    bind-first r (λ r. bind (readRecs g (after s r) (drop (size r) m)) (λ rs. some (r ∷ rs))) k
+    ∙ given-bind (readRecs g (after s r) (drop (size r) m)) (answer lost none) (λ rs. r ∷ rs) k
 
 pub at-after : (s : State) (r : Rec) → (after s r) .at ≡ s .at + size r
 unfolding after

@@ -17,7 +17,8 @@ use Rattle.field.proofs.Part.{put-next, length-put}
 use Rattle.field.proofs.Number.{length-bytes2}
 use Rattle.page.specs.Page.{joined, rowsOf}
 use Rattle.page.proofs.Rows.{Each, joined-rowsOf, length-rowsOf}
-use Rattle.log.specs.Record.{Kind, check, begin, out, into, modify, end, lengthOf, Check, Begin, Rec, LB, LO, LI, LM, LE, kindOf, carried, size, header, fields, lkBytes, encodeCheck, newKey, body, previous, encode}
+use Rattle.log.specs.Record.{Kind, check, begin, out, into, modify, end, lengthOf, Check, Begin, Rec, LB, LO, LI, LM, LE, kindOf, carried, size}
+use Rattle.log.specs.Record.{header, fields, lkBytes, encodeCheck, newKey, body, previous, encode}
 use Rattle.log.specs.Table.{kindAt, kinds}
 use Rattle.log.specs.Write.{unitHead, paged, inBytes, lkOf, checkOf, beginOf}
 use Rattle.log.proofs.Record.{length-fields, length-encode}

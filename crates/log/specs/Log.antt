@@ -11,7 +11,8 @@ use lib.Dec.{eqb, leb}
 use Rattle.field.specs.Test.{both, all, pick, given, when, bind}
 use Rattle.field.specs.Bytes.{allZero, starts, le2, le4, most4}
 use Rattle.page.specs.Page.{rowsOf, keyOf, ascendRecords}
-use Rattle.log.specs.Record.{check, lengthOf, typeAt, fillAt, baseCountAt, leafCountAt, basesAt, leavesAt, destAt, Check, Begin, Rec, LB, LO, LI, LM, LE, carried, size, encodeCheck, encode, encodeAll}
+use Rattle.log.specs.Record.{typeAt, fillAt, baseCountAt, leafCountAt, basesAt, leavesAt, destAt}
+use Rattle.log.specs.Record.{check, lengthOf, Check, Begin, Rec, LB, LO, LI, LM, LE, carried, size, encodeCheck, encode, encodeAll}
 use Rattle.log.specs.Plan.{Step, takeOut, bringIn, point, close, plan}
 
 -- ---- what is known after a record

@@ -3,7 +3,7 @@ ghost use mathlib.Core.Path.{_≡_};
 ghost use Prim.Native.Nat.{_+_, _-_, _*_, _≤_, _<_};
 ghost use lib.ListN.{length, drop, getD};
 ghost use Rattle.field.specs.Bytes.{part, allZero};
-ghost use Rattle.log.specs.Record.{begin};
+ghost use Rattle.log.specs.Record.{begin, baseCountAt, leafCountAt};
 ghost use Rattle.log.specs.Stand.{spareZero};
 ghost use Rattle.log.specs.Log.{within, listed, differ, compactOk, swapOk, moveOk, typeOk, beginOk, readFields, readBegin};
 use field::PageNo;
@@ -220,7 +220,7 @@ fn unused(m: &[u8], start: usize, n: usize) -> bool
 
 // Whether the fields that a begin record leaves unused are zero.
 pub fn spare_zero(m: &[u8]) -> bool
-    requires { ⌜ (begin .fixed ≤ length (now m)) × (getD (now m) 18 0 ≤ 2) × (getD (now m) 19 0 ≤ 8) ⌝ }
+    requires { ⌜ (begin .fixed ≤ length (now m)) × (getD (now m) baseCountAt 0 ≤ 2) × (getD (now m) leafCountAt 0 ≤ 8) ⌝ }
     ensures { λ r. ⌜ r ≡ spareZero (now (m .entry)) ⌝ }
 {
     let bases = byte_at(m, BASE_COUNT_AT);

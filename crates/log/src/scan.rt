@@ -5,7 +5,7 @@ ghost use Prim.Native.Nat.{_+_, _-_, _*_, _≤_, _<_};
 ghost use lib.ListN.{length, drop, getD};
 ghost use lib.Dec.{eqb};
 ghost use Rattle.field.specs.Test.{pick};
-ghost use Rattle.log.specs.Record.{begin};
+ghost use Rattle.log.specs.Record.{begin, typeAt};
 ghost use Rattle.log.specs.Plan.{takeOut, bringIn, point, close, plan};
 ghost use Rattle.log.specs.Log.{beginOk, readBegin};
 ghost use Rattle.log.specs.Stand.{standsBegin};
@@ -158,7 +158,7 @@ fn step_turn(m: &[u8], w: Walk, compact: bool, x: Planned) -> Walk
 // The step i of the unit whose begin record stands at the front of m, where it is known whether that is a compact. It has one caller, and
 // so is compiled in its place in the pass, where `steps::step_at` would be a call at each record.
 fn step_of(m: &[u8], compact: bool, unit: UnitNo, i: usize) -> Planned
-    requires { ⌜ (begin .fixed ≤ length (now m)) × (beginOk (readBegin (unit .0) (now m)) ≡ true) × (compact ≡ eqb (getD (now m) 16 0) 1) ⌝ }
+    requires { ⌜ (begin .fixed ≤ length (now m)) × (beginOk (readBegin (unit .0) (now m)) ≡ true) × (compact ≡ eqb (getD (now m) typeAt 0) 1) ⌝ }
     ensures { λ r. ⌜ stepOf r ≡ getD (plan (readBegin (unit .0) (now (m .entry)))) i (close (unit .0)) ⌝ }
 {
     if compact {

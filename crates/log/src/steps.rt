@@ -7,7 +7,7 @@ ghost use lib.ListN.{length, drop, getD};
 ghost use lib.Dec.{eqb};
 ghost use Rattle.field.specs.Test.{pick};
 ghost use Rattle.field.specs.Bytes.{le2};
-ghost use Rattle.log.specs.Record.{begin};
+ghost use Rattle.log.specs.Record.{begin, typeAt, baseCountAt, leafCountAt, basesAt, leavesAt, destAt};
 ghost use Rattle.log.specs.Plan.{takeOut, bringIn, close, compactPlan, swapPlan, movePlan, plan};
 ghost use Rattle.log.specs.Log.{beginOk, readFields, readBegin};
 ghost use Rattle.log.specs.Steps.{stepOf};
@@ -127,8 +127,9 @@ fn skipped(first: PageNo, dest: PageNo) -> usize
 
 // The step i of a compact.
 pub fn compact_step(m: &[u8], unit: UnitNo, i: usize) -> Planned
-    requires { ⌜ (begin .fixed ≤ length (now m)) × (beginOk (readBegin (unit .0) (now m)) ≡ true) × (getD (now m) 16 0 ≡ 1) ⌝ }
-    ensures { λ r. ⌜ stepOf r ≡ getD (compactPlan (le2 (now (m .entry)) 20) (le2 (now (m .entry)) 40) (readFields (getD (now (m .entry)) 19 0) (drop 24 (now (m .entry)))) ++ (close (unit .0) ∷ [])) i (close (unit .0)) ⌝ }
+    requires { ⌜ (begin .fixed ≤ length (now m)) × (beginOk (readBegin (unit .0) (now m)) ≡ true) × (getD (now m) typeAt 0 ≡ 1) ⌝ }
+    ensures { λ r. ⌜ stepOf r ≡ getD (compactPlan (le2 (now (m .entry)) basesAt) (le2 (now (m .entry)) destAt) (readFields (getD (now (m .entry)) leafCountAt 0) (drop leavesAt (now (m .entry))))
+        ++ (close (unit .0) ∷ [])) i (close (unit .0)) ⌝ }
 {
     let base = PageNo(field::get2(m, opening::BASES_AT));
     let first = PageNo(field::get2(m, opening::LEAVES_AT));
@@ -165,8 +166,8 @@ pub fn compact_step(m: &[u8], unit: UnitNo, i: usize) -> Planned
 
 // The base page of a swap's second leaf.
 fn second_base(m: &[u8]) -> PageNo
-    requires { ⌜ (begin .fixed ≤ length (now m)) × (1 ≤ getD (now m) 18 0) ⌝ }
-    ensures { λ r. ⌜ r .0 ≡ getD (readFields (getD (now (m .entry)) 18 0) (drop 20 (now (m .entry)))) 1 (le2 (now (m .entry)) 20) ⌝ }
+    requires { ⌜ (begin .fixed ≤ length (now m)) × (1 ≤ getD (now m) baseCountAt 0) ⌝ }
+    ensures { λ r. ⌜ r .0 ≡ getD (readFields (getD (now (m .entry)) baseCountAt 0) (drop basesAt (now (m .entry)))) 1 (le2 (now (m .entry)) basesAt) ⌝ }
 {
     if opening::byte_at(m, opening::BASE_COUNT_AT) < 2 {
         return PageNo(field::get2(m, opening::BASES_AT));
@@ -176,7 +177,7 @@ fn second_base(m: &[u8]) -> PageNo
 
 // The step i of a swap or a move.
 pub fn other_step(m: &[u8], unit: UnitNo, i: usize) -> Planned
-    requires { ⌜ (begin .fixed ≤ length (now m)) × (beginOk (readBegin (unit .0) (now m)) ≡ true) × (eqb (getD (now m) 16 0) 1 ≡ false) ⌝ }
+    requires { ⌜ (begin .fixed ≤ length (now m)) × (beginOk (readBegin (unit .0) (now m)) ≡ true) × (eqb (getD (now m) typeAt 0) 1 ≡ false) ⌝ }
     ensures { λ r. ⌜ stepOf r ≡ getD (plan (readBegin (unit .0) (now (m .entry)))) i (close (unit .0)) ⌝ }
 {
     let base = PageNo(field::get2(m, opening::BASES_AT));

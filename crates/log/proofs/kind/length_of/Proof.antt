@@ -1,10 +1,24 @@
 -- `log::kind::length_of` meets its contract. Assumes nothing.
+use Prim.Native.Nat.{_+_, _*_, _≤_}
 use native.Mathlib.Omega.{arith}
-use mathlib.Core.Path.{_∙_}
+use mathlib.Core.Path.{_≡_, _∙_}
+use lib.ListN.{getD}
+use Rattle.log.specs.Table.{kinds, tabled}
 use Rattle.log.proofs.Table.{each-small, fixed-small, length-is}
 use borrow.Author.Needs.{needs}
 use Rattle.log.proofs.kind.length_of.Statement.{statement}
 use Rattle.log.proofs.kind.length_of.Tie as tie
+
+-- what stands in the table
+fixed : (c : tie.After-wide2) → c .before .before .wide .result ≡ getD (tabled kinds) (4 * c .before .before .before .before .args .k + 2) 0
+fixed c = c .before .before .wide .ensures ∙ c .before .before .before .cell .ensures
+
+each : (c : tie.After-wide2) → c .wide2 .result ≡ getD (tabled kinds) (4 * c .before .before .before .before .args .k + 3) 0
+each c = c .wide2 .ensures ∙ c .before .cell2 .ensures
+
+-- and the product is small
+carried : (c : tie.After-wide2) → c .wide2 .result * c .before .before .before .before .args .n ≤ 240
+carried c = let a = c .before .before .before .before in each-small (a .args .k) (a .args .n) (c .wide2 .result) (a .pre .0) (a .pre .1) (each c)
 
 mul-cell : tie.Need-mul-cell
 mul-cell c = search needs
@@ -31,13 +45,17 @@ wide-requires-2 : tie.Need-wide-requires-2
 wide-requires-2 c κs = search needs
 
 mul-result : tie.Need-mul-result
-mul-result c = let a = c .before .before .before .before in omega (arith, each-small (a .args .k) (a .args .n) (c .wide2 .result) (a .pre .0) (a .pre .1) (c .wide2 .ensures ∙ c .before .cell2 .ensures))
+mul-result c = omega (arith, carried c)
 
 add-result : tie.Need-add-result
-add-result c = let a = c .before .before .before .before in omega (arith, each-small (a .args .k) (a .args .n) (c .wide2 .result) (a .pre .0) (a .pre .1) (c .wide2 .ensures ∙ c .before .cell2 .ensures), fixed-small (a .args .k) (c .before .before .wide .result) (a .pre .0) (c .before .before .wide .ensures ∙ c .before .before .before .cell .ensures))
+add-result c =
+    let a = c .before .before .before .before in
+    omega (arith, carried c, fixed-small (a .args .k) (c .before .before .wide .result) (a .pre .0) (fixed c))
 
 returns : tie.Need-returns
-returns c = let a = c .before .before .before .before in length-is (a .args .k) (a .args .n) (c .before .before .wide .result) (c .wide2 .result) (a .pre .0) (c .before .before .wide .ensures ∙ c .before .before .before .cell .ensures) (c .wide2 .ensures ∙ c .before .cell2 .ensures)
+returns c =
+    let a = c .before .before .before .before in
+    length-is (a .args .k) (a .args .n) (c .before .before .wide .result) (c .wide2 .result) (a .pre .0) (fixed c) (each c)
 
 pub length-of-spec : {M : Type 1} → statement M
 length-of-spec =

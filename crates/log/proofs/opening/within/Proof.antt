@@ -9,7 +9,9 @@ use Rattle.log.proofs.opening.within.Statement.{statement}
 use Rattle.log.proofs.opening.within.Tie as tie
 
 abbrev Inv-loop : tie.InvT-loop
-Inv-loop m from to start n at₀ left₀ at left = (left ≤ n) × (at + 2 * left ≤ length m) × (within (from .0) (to .0) (readFields n (drop start m)) ≡ within (from .0) (to .0) (readFields left (drop at m)))
+Inv-loop m from to start n at₀ left₀ at left =
+    (left ≤ n) × (at + 2 * left ≤ length m)
+    × (within (from .0) (to .0) (readFields n (drop start m)) ≡ within (from .0) (to .0) (readFields left (drop at m)))
 
 abbrev μ-loop : tie.MeasureT-loop
 μ-loop m from to start n at₀ left₀ at left = left

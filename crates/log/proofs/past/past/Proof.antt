@@ -1,34 +1,52 @@
 -- `log::past::past` meets its contract: a law for each sign. Assumes nothing.
-use Prim.Native.Nat.{_+_}
+use Prim.Native.Nat.{_+_, _-_}
 use native.Mathlib.Omega.{arith}
 use mathlib.Core.Path.{_≡_, sym, _∙_}
 use mathlib.Core.Bool.{true}
-use lib.ListN.{getD, length-drop}
+use lib.ListN.{length, drop, getD, length-drop}
 use lib.Dec.{eqb}
 use borrow.Rule.Slice.PartAt.{part-to-end}
 use Rattle.log.specs.Table.{kinds, kindAt}
 use Rattle.log.specs.Scan.{ended, turned}
-use Rattle.log.proofs.Signs.{way-past}
+use Rattle.log.proofs.Signs.{Way, way-past}
 use borrow.Author.Needs.{needs}
 use Rattle.log.proofs.past.past.Statement.{statement}
 use Rattle.log.proofs.past.past.Tie as tie
 
+-- the call, from where the record's sign is known
+abbrev entry : tie.After-sign → tie.Start
+entry c = c .before .before .before
+
+-- what each sign says of the record and of the numbers after it
+on : (c : tie.After-sign) → let a = entry c .args in
+    Way (getD (a .l .now) (a .w .at + 1) 0) (a .w) (drop (a .w .at) (a .l .now)) (eqb (getD (a .l .now) (a .w .begin + 16) 0) 1) (turned (a .l .now) (a .w))
+on c = let a = entry c in way-past (a .args .l .now) (a .args .w) (a .pre .1)
+
+-- the bytes from the record on
+rest : (c : tie.After-sign) → let a = entry c .args in length (drop (a .w .at) (a .l .now)) ≡ length (a .l .now) - a .w .at
+rest c = let a = entry c .args in length-drop (a .w .at) (a .l .now)
+
 -- no other sign: it is an LE
-last : (c : tie.Else4) → (c .before .before .before .before .before .before .before .before .before .before .args .w .opened ≡ true) × (turned (c .before .before .before .before .before .before .before .before .before .before .args .l .now) (c .before .before .before .before .before .before .before .before .before .before .args .w) ≡ ended (c .before .before .before .before .before .before .before .before .before .before .args .w) (eqb (getD (c .before .before .before .before .before .before .before .before .before .before .args .l .now) (c .before .before .before .before .before .before .before .before .before .before .args .w .begin + 16) 0) 1))
+last : (c : tie.Else4) → let a = entry (c .before .before .before .before .before .before .before) .args in
+    (a .w .opened ≡ true) × (turned (a .l .now) (a .w) ≡ ended (a .w) (eqb (getD (a .l .now) (a .w .begin + 16) 0) 1))
 unfolding kindAt kinds
 last c =
-    let a = c .before .before .before .before .before .before .before .before .before .before in
-    way-past (a .args .l .now) (a .args .w) (a .pre .1) .ends
-    (λ q. c .before .before .before .before .before .before .if1 .left (q ∙ sym (c .before .before .before .before .before .before .before .sign .ensures)))
-    (λ q. c .before .before .before .before .if2 .left (q ∙ sym (c .before .before .before .before .before .sign2 .ensures)))
-    (λ q. c .before .before .if3 .left (q ∙ sym (c .before .before .before .sign3 .ensures)))
+    let third = c .before .before in
+    let second = third .before .before in
+    let first = second .before .before in
+    on (first .before) .ends
+    (λ q. first .if1 .left (q ∙ sym (first .before .sign .ensures)))
+    (λ q. second .if2 .left (q ∙ sym (second .before .sign2 .ensures)))
+    (λ q. third .if3 .left (q ∙ sym (third .before .sign3 .ensures)))
     (λ q. c .if4 .left (q ∙ sym (c .before .sign4 .ensures)))
 
 add-sign : tie.Need-add-sign
 add-sign c = search needs
 
 shared-slice-read-sign : tie.Need-shared-slice-read-sign
-shared-slice-read-sign c = let a = c .before .before in let v = way-past (a .args .l .now) (a .args .w) (a .pre .1) in omega (arith, v .room, length-drop (a .args .w .at) (a .args .l .now))
+shared-slice-read-sign c =
+    let a = c .before .before in
+    omega (arith, way-past (a .args .l .now) (a .args .w) (a .pre .1) .room, length-drop (a .args .w .at) (a .args .l .now))
 
 sign-requires : tie.Need-sign-requires
 sign-requires c κs = search needs
@@ -44,22 +62,34 @@ part-taken-out-end c = search needs
 
 taken-out-requires : tie.Need-taken-out-requires
 unfolding kindAt kinds
-taken-out-requires c κs = let a = c .before .before .before .before .before in let v = way-past (a .args .l .now) (a .args .w) (a .pre .1) in let x = v .takes (c .before .if1 .taken ∙ c .before .before .sign .ensures) in let n = length-drop (a .args .w .at) (a .args .l .now) in (v .number, rw part-to-end (omega (arith, n)), a .pre .0 .steps, rw part-to-end (x .0))
+taken-out-requires c κs =
+    let k = c .before .before in
+    let x = on k .takes (c .before .if1 .taken ∙ k .sign .ensures) in
+    (on k .number, rw part-to-end (omega (arith, rest k)), entry k .pre .0 .steps, rw part-to-end (x .0))
 
 returns : tie.Need-returns
 unfolding kindAt kinds
-returns c = let a = c .before .before .before .before .before .before in let v = way-past (a .args .l .now) (a .args .w) (a .pre .1) in let x = v .takes (c .before .before .if1 .taken ∙ c .before .before .before .sign .ensures) in rw part-to-end at (c .taken-out .ensures) ∙ sym (x .1)
+returns c =
+    let k = c .before .before .before in
+    let x = on k .takes (c .before .before .if1 .taken ∙ k .sign .ensures) in
+    rw part-to-end at (c .taken-out .ensures) ∙ sym (x .1)
 
 sign-requires-2 : tie.Need-sign-requires-2
 sign-requires-2 c κs = search needs
 
 brought-in-requires : tie.Need-brought-in-requires
 unfolding kindAt kinds
-brought-in-requires c κs = let a = c .before .before .before .before .before .before in let v = way-past (a .args .l .now) (a .args .w) (a .pre .1) in let x = v .brings (c .if2 .taken ∙ c .before .sign2 .ensures) in (v .number, omega (arith, x .0, length-drop (a .args .w .at) (a .args .l .now)), a .pre .0 .steps)
+brought-in-requires c κs =
+    let k = c .before .before .before in
+    let x = on k .brings (c .if2 .taken ∙ c .before .sign2 .ensures) in
+    (on k .number, omega (arith, x .0, rest k), entry k .pre .0 .steps)
 
 returns-2 : tie.Need-returns-2
 unfolding kindAt kinds
-returns-2 c = let a = c .before .before .before .before .before .before .before in let v = way-past (a .args .l .now) (a .args .w) (a .pre .1) in let x = v .brings (c .before .if2 .taken ∙ c .before .before .sign2 .ensures) in c .brought-in .ensures ∙ sym (x .1)
+returns-2 c =
+    let k = c .before .before .before .before in
+    let x = on k .brings (c .before .if2 .taken ∙ c .before .before .sign2 .ensures) in
+    c .brought-in .ensures ∙ sym (x .1)
 
 sign-requires-3 : tie.Need-sign-requires-3
 sign-requires-3 c κs = search needs
@@ -75,31 +105,43 @@ part-pointed-end c = search needs
 
 pointed-requires : tie.Need-pointed-requires
 unfolding kindAt kinds
-pointed-requires c κs = let a = c .before .before .before .before .before .before .before .before .before in let v = way-past (a .args .l .now) (a .args .w) (a .pre .1) in let x = v .points (c .before .if3 .taken ∙ c .before .before .sign3 .ensures) in (v .number, omega (arith, x .0, length-drop (a .args .w .at) (a .args .l .now)), a .pre .0 .steps, rw part-to-end (x .0))
+pointed-requires c κs =
+    let k = c .before .before .before .before .before .before in
+    let x = on k .points (c .before .if3 .taken ∙ c .before .before .sign3 .ensures) in
+    (on k .number, omega (arith, x .0, rest k), entry k .pre .0 .steps, rw part-to-end (x .0))
 
 returns-3 : tie.Need-returns-3
 unfolding kindAt kinds
-returns-3 c = let a = c .before .before .before .before .before .before .before .before .before .before in let v = way-past (a .args .l .now) (a .args .w) (a .pre .1) in let x = v .points (c .before .before .if3 .taken ∙ c .before .before .before .sign3 .ensures) in rw part-to-end at (c .pointed .ensures) ∙ sym (x .1)
+returns-3 c =
+    let k = c .before .before .before .before .before .before .before in
+    let x = on k .points (c .before .before .if3 .taken ∙ c .before .before .before .sign3 .ensures) in
+    rw part-to-end at (c .pointed .ensures) ∙ sym (x .1)
 
 sign-requires-4 : tie.Need-sign-requires-4
 sign-requires-4 c κs = search needs
 
 begun-requires : tie.Need-begun-requires
 unfolding kindAt kinds
-begun-requires c κs = let a = c .before .before .before .before .before .before .before .before .before .before in let v = way-past (a .args .l .now) (a .args .w) (a .pre .1) in let x = v .begins (c .if4 .taken ∙ c .before .sign4 .ensures) in (v .number, x .1, omega (arith, x .0, length-drop (a .args .w .at) (a .args .l .now)))
+begun-requires c κs =
+    let k = c .before .before .before .before .before .before .before in
+    let x = on k .begins (c .if4 .taken ∙ c .before .sign4 .ensures) in
+    (on k .number, x .1, omega (arith, x .0, rest k))
 
 returns-4 : tie.Need-returns-4
 unfolding kindAt kinds
-returns-4 c = let a = c .before .before .before .before .before .before .before .before .before .before .before in let v = way-past (a .args .l .now) (a .args .w) (a .pre .1) in let x = v .begins (c .before .if4 .taken ∙ c .before .before .sign4 .ensures) in c .begun .ensures ∙ sym (x .2)
+returns-4 c =
+    let k = c .before .before .before .before .before .before .before .before in
+    let x = on k .begins (c .before .if4 .taken ∙ c .before .before .sign4 .ensures) in
+    c .begun .ensures ∙ sym (x .2)
 
 add-ended : tie.Need-add-ended
-add-ended c = let a = c .before .before .before .before .before .before .before .before .before .before in omega (arith, a .pre .0 .room (last c .0))
+add-ended c = omega (arith, entry (c .before .before .before .before .before .before .before) .pre .0 .room (last c .0))
 
 shared-slice-read-ended : tie.Need-shared-slice-read-ended
-shared-slice-read-ended c = let a = c .before .before .before .before .before .before .before .before .before .before .before in omega (arith, a .pre .0 .room (last (c .before) .0))
+shared-slice-read-ended c = omega (arith, entry (c .before .before .before .before .before .before .before .before) .pre .0 .room (last (c .before) .0))
 
 ended-requires : tie.Need-ended-requires
-ended-requires c κs = let a = c .before .before .before .before .before .before .before .before .before .before .before in let v = way-past (a .args .l .now) (a .args .w) (a .pre .1) in (v .number, omega (arith, v .room, length-drop (a .args .w .at) (a .args .l .now)))
+ended-requires c κs = let k = c .before .before .before .before .before .before .before .before in (on k .number, omega (arith, on k .room, rest k))
 
 returns-5 : tie.Need-returns-5
 returns-5 c = c .ended .ensures ∙ sym (last (c .before .before) .1)

@@ -16,7 +16,11 @@ size-of-requires c κs = search needs
 
 went-requires : tie.Need-went-requires
 unfolding lengthOf kindAt kinds
-went-requires c κs = let a = c .before .before .before in let k : a .args .w .at + c .size-of .result < 18446744073709551616 = omega arith in let d : a .args .w .done < a .args .w .at + c .size-of .result = omega arith in (a .pre .0, k, d)
+went-requires c κs =
+    let a = c .before .before .before in
+    let k : a .args .w .at + c .size-of .result < 18446744073709551616 = omega arith in
+    let d : a .args .w .done < a .args .w .at + c .size-of .result = omega arith in
+    (a .pre .0, k, d)
 
 returns : tie.Need-returns
 unfolding kindAt kinds

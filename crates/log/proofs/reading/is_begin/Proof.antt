@@ -15,14 +15,20 @@ size-of-requires c κs = search needs
 
 returns : tie.Need-returns
 unfolding lengthOf kindAt kinds
-returns c = let a = c .before .before .before in let h : length (a .args .m .now) < 44 = omega arith in begin-short! (a .args .m .now) (a .args .n .0) (a .args .unit .0) h
+returns c =
+    let a = c .before .before .before in
+    let h : length (a .args .m .now) < 44 = omega arith in
+    begin-short! (a .args .m .now) (a .args .n .0) (a .args .unit .0) h
 
 begin-ok-requires : tie.Need-begin-ok-requires
 unfolding lengthOf kindAt kinds
 begin-ok-requires c κs = omega arith
 
 returns-2 : tie.Need-returns-2
-returns-2 c = let a = c .before .before .before .before .before in let u : a .args .unit .0 ≤ 4294967295 = omega arith in search (begin-bad! (a .args .m .now) (a .args .n .0) (a .args .unit .0) u)
+returns-2 c =
+    let a = c .before .before .before .before .before in
+    let u : a .args .unit .0 ≤ 4294967295 = omega arith in
+    search (begin-bad! (a .args .m .now) (a .args .n .0) (a .args .unit .0) u)
 
 spare-zero-requires : tie.Need-spare-zero-requires
 unfolding lengthOf kindAt kinds
@@ -30,7 +36,13 @@ spare-zero-requires c κs = omega (arith, begin-counts _ _ (c .before .begin-ok 
 
 returns-3 : tie.Need-returns-3
 unfolding lengthOf kindAt kinds
-returns-3 c = let a = c .before .before .before .before .before .before .before in let u : a .args .unit .0 ≤ 4294967295 = omega arith in let h : 44 ≤ length (a .args .m .now) = omega arith in let k : a .args .n .0 ≤ 4294967295 = omega arith in let y : Bytes (a .args .m .now) = λ i. omega (arith, c .before .before .before .before .before .before .shared-slice-known .given i) in search (begin-spare! (a .args .m .now) (a .args .n .0) (a .args .unit .0) u k y h)
+returns-3 c =
+    let a = c .before .before .before .before .before .before .before in
+    let u : a .args .unit .0 ≤ 4294967295 = omega arith in
+    let h : 44 ≤ length (a .args .m .now) = omega arith in
+    let k : a .args .n .0 ≤ 4294967295 = omega arith in
+    let y : Bytes (a .args .m .now) = λ i. omega (arith, c .before .before .before .before .before .before .shared-slice-known .given i) in
+    search (begin-spare! (a .args .m .now) (a .args .n .0) (a .args .unit .0) u k y h)
 
 slice-aggregate-put-unit : tie.Need-slice-aggregate-put-unit
 slice-aggregate-put-unit c = search needs

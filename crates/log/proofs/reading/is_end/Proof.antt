@@ -19,7 +19,9 @@ sub-if1 : tie.Need-sub-if1
 sub-if1 c = search needs
 
 returns : tie.Need-returns
-returns c = let a = c .before .before .before in stand-short (a .args .n .0) (LE (a .args .unit .0)) (a .args .l .now) (a .args .at) (c .before .size-of .result) (c .before .size-of .ensures ∙ end-long _) (c .if1 .taken)
+returns c =
+    let a = c .before .before .before in
+    stand-short (a .args .n .0) (LE (a .args .unit .0)) (a .args .l .now) (a .args .at) (c .before .size-of .result) (c .before .size-of .ensures ∙ end-long _) (c .if1 .taken)
 
 slice-aggregate-put-end : tie.Need-slice-aggregate-put-end
 slice-aggregate-put-end c = search needs
@@ -36,7 +38,11 @@ same-at-requires c κs = omega arith
 
 returns-2 : tie.Need-returns-2
 unfolding carried
-returns-2 c = let a = c .before .before .before .before .before .before .before .before in let k : a .args .n .0 ≤ 4294967295 = omega arith in search (stand-rest! (a .args .n .0) (LE (a .args .unit .0)) (a .args .l .now) (a .args .at) _ (c .before .before .before .before .before .before .size-of .ensures ∙ end-long _) Each.nil k (c .before .before .before .before .before .if1 .left))
+returns-2 c =
+    let room = c .before .before .before .before .before in
+    let a = room .before .before .before .args in
+    let k : a .n .0 ≤ 4294967295 = omega arith in
+    search (stand-rest! (a .n .0) (LE (a .unit .0)) (a .l .now) (a .at) _ (room .before .size-of .ensures ∙ end-long _) Each.nil k (room .if1 .left))
 
 pub is-end-spec : {M : Type 1} → statement M
 is-end-spec =

@@ -33,7 +33,11 @@ unfolding lengthOf kindAt kinds
 same-at-requires c κs = omega arith
 
 returns-2 : tie.Need-returns-2
-returns-2 c = let a = c .before .before .before .before .before .before .before .before in let k : a .args .n .0 ≤ 4294967295 = omega arith in search (in-rest! (a .args .n .0) (a .args .org .0) (a .args .dest .0) (a .args .back) (a .args .rows) (a .args .l .now) (a .args .at) _ (c .before .before .before .before .before .before .size-of .ensures) k (c .before .before .before .before .before .if1 .left))
+returns-2 c =
+    let room = c .before .before .before .before .before in
+    let a = room .before .before .before .args in
+    let k : a .n .0 ≤ 4294967295 = omega arith in
+    search (in-rest! (a .n .0) (a .org .0) (a .dest .0) (a .back) (a .rows) (a .l .now) (a .at) _ (room .before .size-of .ensures) k (room .if1 .left))
 
 pub is-in-spec : {M : Type 1} → statement M
 is-in-spec =

@@ -40,7 +40,11 @@ unfolding lengthOf kindAt kinds
 same-at-requires c κs = omega arith
 
 returns-2 : tie.Need-returns-2
-returns-2 c = let a = c .before .before .before .before .before .before .before .before .before in let k : a .args .n .0 ≤ 4294967295 = omega arith in search (modify-rest! (a .args .n .0) (a .args .base .0) (a .args .old .0) (a .args .new .0) (a .args .l .now) (a .args .at) _ (c .before .before .before .before .before .before .before .size-of .ensures) k (c .before .before .before .before .before .before .if1 .left))
+returns-2 c =
+    let room = c .before .before .before .before .before .before in
+    let a = room .before .before .before .args in
+    let k : a .n .0 ≤ 4294967295 = omega arith in
+    search (modify-rest! (a .n .0) (a .base .0) (a .old .0) (a .new .0) (a .l .now) (a .at) _ (room .before .size-of .ensures) k (room .if1 .left))
 
 pub is-modify-spec : {M : Type 1} → statement M
 is-modify-spec =

@@ -56,7 +56,15 @@ same-at-requires c κs = omega arith
 
 returns-6 : tie.Need-returns-6
 unfolding lengthOf kindAt kinds
-returns-6 c = let a = c .before .before .before .before .before .before .before .before .before .before .before .before .before .before .before in let k : a .args .n .0 ≤ 4294967295 = omega arith in let h : 20 + 16 * c .before .before .before .before .before .before .before .before .before .before .before .get2 .result ≤ length (a .args .m .now) = omega arith in search (out-whole! (a .args .m .now) (a .args .n .0) (a .args .org .0) (a .args .dest .0) (c .before .before .before .before .before .before .before .before .before .before .before .get2 .result) (c .before .before .before .before .before .before .before .before .before .before .before .get2 .ensures) (c .before .before .before .before .before .before .before .before .before .before .before .before .before .size-of .result) (c .before .before .before .before .before .before .before .before .before .before .before .before .before .size-of .ensures) (c .before .before .before .before .before .before .records-ascend .result) (c .before .before .before .before .before .before .records-ascend .ensures) k h)
+returns-6 c =
+    let rows = c .before .before .before .before .before .before in
+    let count = rows .before .before .before .before .before in
+    let fixed = count .before .before in
+    let a = fixed .before .before .args in
+    let k : a .n .0 ≤ 4294967295 = omega arith in
+    let h : 20 + 16 * count .get2 .result ≤ length (a .m .now) = omega arith in
+    search (out-whole! (a .m .now) (a .n .0) (a .org .0) (a .dest .0) (count .get2 .result) (count .get2 .ensures) (fixed .size-of .result) (fixed .size-of .ensures)
+    (rows .records-ascend .result) (rows .records-ascend .ensures) k h)
 
 pub is-out-spec : {M : Type 1} → statement M
 is-out-spec =

@@ -28,7 +28,12 @@ returns-2 : tie.Need-returns-2
 returns-2 c = lost-pick _ _ _ _ (c .lost2 .ensures) (c .before .before .is-begin .ensures) (c .before .if2 .taken)
 
 begun-requires : tie.Need-begun-requires
-begun-requires c κs = let a = c .before .before .before .before .before .before .before in let r = begin-room _ (a .args .m .now) _ (c .if2 .left) _ (c .before .is-begin .ensures) in let u : a .args .w .unit .0 < 4294967295 = omega (arith, c .before .before .before .before .if1 .left) in let k : a .args .w .at + 44 < 18446744073709551616 = omega (arith, r) in (a .pre .0, u, k)
+begun-requires c κs =
+    let a = c .before .before .before .before .before .before .before in
+    let r = begin-room _ (a .args .m .now) _ (c .if2 .left) _ (c .before .is-begin .ensures) in
+    let u : a .args .w .unit .0 < 4294967295 = omega (arith, c .before .before .before .before .if1 .left) in
+    let k : a .args .w .at + 44 < 18446744073709551616 = omega (arith, r) in
+    (a .pre .0, u, k)
 
 returns-3 : tie.Need-returns-3
 returns-3 c = on-pick _ _ _ _ (c .begun .ensures) (c .before .before .is-begin .ensures) (c .before .if2 .left)

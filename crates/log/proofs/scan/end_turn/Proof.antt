@@ -21,7 +21,11 @@ unfolding stepped
 returns c = lost-pick _ _ _ _ (c .lost .ensures) (c .before .before .is-end .ensures) (c .before .if1 .taken)
 
 ended-requires : tie.Need-ended-requires
-ended-requires c κs = let a = c .before .before .before .before in let r = end-room _ (a .args .m .now) _ (c .if1 .left) _ (c .before .is-end .ensures) in let k : a .args .w .at + 16 < 18446744073709551616 = omega (arith, r) in (a .pre .0, k)
+ended-requires c κs =
+    let a = c .before .before .before .before in
+    let r = end-room _ (a .args .m .now) _ (c .if1 .left) _ (c .before .is-end .ensures) in
+    let k : a .args .w .at + 16 < 18446744073709551616 = omega (arith, r) in
+    (a .pre .0, k)
 
 returns-2 : tie.Need-returns-2
 unfolding stepped

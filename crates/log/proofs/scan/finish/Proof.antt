@@ -8,7 +8,9 @@ lost-requires : tie.Need-lost-requires
 lost-requires c κs = search needs
 
 returns : tie.Need-returns
-returns c = let a = c .before .before .before .before .before in finish-off (a .args .l .now) (a .args .w) (a .args .e) _ (c .lost .ensures) (c .before .if1 .taken)
+returns c =
+    let a = c .before .before .before .before .before in
+    finish-off (a .args .l .now) (a .args .w) (a .args .e) _ (c .lost .ensures) (c .before .if1 .taken)
 
 sub-zeros-long : tie.Need-sub-zeros-long
 sub-zeros-long c = search needs

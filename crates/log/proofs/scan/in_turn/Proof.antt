@@ -25,7 +25,11 @@ unfolding stepped sourceRows
 returns c = rw (← c .before .before .before .before .source-rows .ensures) (lost-pick _ _ _ _ (c .lost .ensures) (c .before .before .is-in .ensures) (c .before .if1 .taken))
 
 brought-in-requires : tie.Need-brought-in-requires
-brought-in-requires c κs = let a = c .before .before .before .before .before in let r = in-room _ (a .args .m .now) _ (c .if1 .left) _ _ _ _ (c .before .is-in .ensures) in let k : a .args .w .at + 24 < 18446744073709551616 = omega (arith, r) in (a .pre .0, k, a .pre .2)
+brought-in-requires c κs =
+    let a = c .before .before .before .before .before in
+    let r = in-room _ (a .args .m .now) _ (c .if1 .left) _ _ _ _ (c .before .is-in .ensures) in
+    let k : a .args .w .at + 24 < 18446744073709551616 = omega (arith, r) in
+    (a .pre .0, k, a .pre .2)
 
 returns-2 : tie.Need-returns-2
 unfolding stepped sourceRows

@@ -19,7 +19,11 @@ unfolding stepped
 returns c = lost-pick _ _ _ _ (c .lost .ensures) (c .before .before .is-out .ensures) (c .before .if1 .taken)
 
 taken-out-requires : tie.Need-taken-out-requires
-taken-out-requires c κs = let a = c .before .before .before .before in let r = out-room _ (a .args .m .now) _ (c .if1 .left) _ _ (c .before .is-out .ensures) in let o = out-rows _ (a .args .m .now) _ (c .if1 .left) _ _ (c .before .is-out .ensures) in (a .pre .0, a .pre .1, a .pre .2, record { room = r .0; some = o .0; few = r .1; rising = o .1 })
+taken-out-requires c κs =
+    let a = c .before .before .before .before in
+    let r = out-room _ (a .args .m .now) _ (c .if1 .left) _ _ (c .before .is-out .ensures) in
+    let o = out-rows _ (a .args .m .now) _ (c .if1 .left) _ _ (c .before .is-out .ensures) in
+    (a .pre .0, a .pre .1, a .pre .2, record { room = r .0; some = o .0; few = r .1; rising = o .1 })
 
 returns-2 : tie.Need-returns-2
 unfolding stepped

@@ -21,7 +21,11 @@ unfolding stepped
 returns c = lost-pick _ _ _ _ (c .lost .ensures) (c .before .before .is-modify .ensures) (c .before .if1 .taken)
 
 pointed-requires : tie.Need-pointed-requires
-pointed-requires c κs = let a = c .before .before .before .before in let r = modify-room _ (a .args .m .now) _ (c .if1 .left) _ _ _ (c .before .is-modify .ensures) in let k : a .args .w .at + 28 < 18446744073709551616 = omega (arith, r) in (a .pre .0, k, a .pre .2, r)
+pointed-requires c κs =
+    let a = c .before .before .before .before in
+    let r = modify-room _ (a .args .m .now) _ (c .if1 .left) _ _ _ (c .before .is-modify .ensures) in
+    let k : a .args .w .at + 28 < 18446744073709551616 = omega (arith, r) in
+    (a .pre .0, k, a .pre .2, r)
 
 returns-2 : tie.Need-returns-2
 unfolding stepped

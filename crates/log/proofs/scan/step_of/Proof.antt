@@ -10,7 +10,9 @@ compact-step-requires : tie.Need-compact-step-requires
 compact-step-requires c κs = let a = c .before .before in (a .pre .0, a .pre .1, eqb-true _ 1 (sym (a .pre .2) ∙ c .if1 .taken))
 
 returns : tie.Need-returns
-returns c = let a = c .before .before .before in step-compact! (a .args .m .now) (a .args .unit .0) (a .args .i) (a .pre .1) _ _ refl (c .compact-step .ensures) (eqb-true _ 1 (sym (a .pre .2) ∙ c .before .if1 .taken))
+returns c =
+    let a = c .before .before .before in
+    step-compact! (a .args .m .now) (a .args .unit .0) (a .args .i) (a .pre .1) _ _ refl (c .compact-step .ensures) (eqb-true _ 1 (sym (a .pre .2) ∙ c .before .if1 .taken))
 
 other-step-requires : tie.Need-other-step-requires
 other-step-requires c κs = let a = c .before .before in (a .pre .0, a .pre .1, sym (a .pre .2) ∙ c .if1 .left)

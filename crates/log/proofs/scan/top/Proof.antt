@@ -41,13 +41,28 @@ lost-requires-2 : tie.Need-lost-requires-2
 lost-requires-2 c κs = search needs
 
 returns-2 : tie.Need-returns-2
-returns-2 c = top-lost! (c .before .before .before .before .before .before .before .before .before .before .args .l .now) _ _ _ _ (c .before .before .is-check .ensures) (c .before .before .before .before .before .before .get4 .ensures) (c .before .before .before .before .before .get42 .ensures) (c .before .before .before .get43 .ensures) _ (c .lost2 .ensures) (c .before .if2 .taken)
+returns-2 c =
+    let k = c .before .before in
+    let key = k .before in
+    let unit = key .before .before in
+    let number = unit .before in
+    let long = number .before .before in
+    let l = long .before .before .args .l .now in
+    top-lost! l _ _ _ _ (k .is-check .ensures) (number .get4 .ensures) (unit .get42 .ensures) (key .get43 .ensures) _ (c .lost2 .ensures) (c .before .if2 .taken)
 
 number-if-requires : tie.Need-number-if-requires
 number-if-requires c κs = search needs
 
 returns-3 : tie.Need-returns-3
-returns-3 c = shown-first _ _ _ _ _ _ (c .before .before .before .before .before .before .before .before .size-of .ensures) (c .number-if .ensures) ∙ top-on (c .before .before .before .before .before .before .before .before .before .before .args .l .now) _ _ _ _ (c .before .before .is-check .ensures) (c .before .before .before .before .before .before .get4 .ensures) (c .before .before .before .before .before .get42 .ensures) (c .before .before .before .get43 .ensures) (c .before .if2 .left)
+returns-3 c =
+    let k = c .before .before in
+    let key = k .before in
+    let unit = key .before .before in
+    let number = unit .before in
+    let long = number .before .before in
+    let l = long .before .before .args .l .now in
+    shown-first _ _ _ _ _ _ (long .size-of .ensures) (c .number-if .ensures)
+    ∙ top-on l _ _ _ _ (k .is-check .ensures) (number .get4 .ensures) (unit .get42 .ensures) (key .get43 .ensures) (c .before .if2 .left)
 
 pub top-spec : {M : Type 1} → statement M
 top-spec =

@@ -1,4 +1,5 @@
 -- `log::scan::turn` meets its contract: an LB where no unit is open, else the planned step. Assumes nothing.
+use Prim.Native.Nat.{_+_, _≤_}
 use native.Mathlib.Omega.{arith}
 use mathlib.Core.Path.{_≡_}
 use mathlib.Core.Bool.{true}
@@ -10,6 +11,10 @@ use Rattle.log.proofs.Ways.{turned-full, begin-turned, step-turned}
 use borrow.Author.Needs.{needs}
 use Rattle.log.proofs.scan.turn.Statement.{statement}
 use Rattle.log.proofs.scan.turn.Tie as tie
+
+-- a unit is open, and its begin record stands in the log
+open-room : (c : tie.Else2) → let a = c .before .before .before .before .before .args in (a .w .opened ≡ true) × (a .w .begin + 44 ≤ length (a .l .now))
+open-room c = let h = not-false _ (c .if2 .left) in (h, c .before .before .before .before .before .pre .room h)
 
 lost-requires : tie.Need-lost-requires
 lost-requires c κs = search needs
@@ -33,22 +38,26 @@ returns-2 : tie.Need-returns-2
 returns-2 c = begin-turned (c .before .before .before .before .before .before .before .args .l .now) _ _ (c .before .before .if2 .taken) (c .begin-turn .ensures)
 
 add-compact : tie.Need-add-compact
-add-compact c = omega (arith, c .before .before .before .before .before .pre .room (not-false _ (c .if2 .left)))
+add-compact c = omega (arith, open-room c .1)
 
 shared-slice-read-compact : tie.Need-shared-slice-read-compact
-shared-slice-read-compact c = omega (arith, c .before .before .before .before .before .before .pre .room (not-false _ (c .before .if2 .left)))
+shared-slice-read-compact c = omega (arith, open-room (c .before) .1)
 
 sub-step-of : tie.Need-sub-step-of
-sub-step-of c = omega (arith, c .before .before .before .before .before .before .pre .room (not-false _ (c .before .if2 .left)))
+sub-step-of c = omega (arith, open-room (c .before) .1)
 
 part-step-of-start : tie.Need-part-step-of-start
-part-step-of-start c = omega (arith, c .before .before .before .before .before .before .pre .room (not-false _ (c .before .if2 .left)))
+part-step-of-start c = omega (arith, open-room (c .before) .1)
 
 part-step-of-end : tie.Need-part-step-of-end
 part-step-of-end c = search needs
 
 step-of-requires : tie.Need-step-of-requires
-step-of-requires c κs = let a = c .before .before .before .before .before .before .before in let h : a .args .w .opened ≡ true = not-false _ (c .before .before .if2 .left) in (rw (part-to-end, length-drop) (omega (arith, a .pre .room h)), rw part-to-end (a .pre .start h), rw (part-to-end, getD-drop (a .args .w .begin) (a .args .l .now) 16 0))
+step-of-requires c κs =
+    let k = c .before .before in
+    let a = k .before .before .before .before .before in
+    let h = open-room k in
+    (rw (part-to-end, length-drop) (omega (arith, h .1)), rw part-to-end (a .pre .start (h .0)), rw (part-to-end, getD-drop (a .args .w .begin) (a .args .l .now) 16 0))
 
 sub-step-turn : tie.Need-sub-step-turn
 sub-step-turn c = search needs
@@ -63,7 +72,9 @@ step-turn-requires : tie.Need-step-turn-requires
 step-turn-requires c κs = search needs
 
 returns-3 : tie.Need-returns-3
-returns-3 c = step-turned (c .before .before .before .before .before .before .before .before .before .before .args .l .now) _ _ (c .before .before .before .before .before .if2 .left) _ (c .before .before .step-of .ensures) (c .step-turn .ensures)
+returns-3 c =
+    let k = c .before .before .before .before .before in
+    step-turned (k .before .before .before .before .before .args .l .now) _ _ (k .if2 .left) _ (c .before .before .step-of .ensures) (c .step-turn .ensures)
 
 pub turn-spec : {M : Type 1} → statement M
 turn-spec =

@@ -6,6 +6,14 @@ use borrow.Author.Needs.{needs}
 use Rattle.log.proofs.steps.compact_step.Statement.{statement}
 use Rattle.log.proofs.steps.compact_step.Tie as tie
 
+-- the call, from where all that it asks of the record is known
+abbrev entry : tie.After-skipped → tie.Start
+entry c = c .before .before .before .before .before .before
+
+-- the record is a compact's: how many leaves it lists
+lists : (c : tie.After-skipped) → Compacts (entry c .args .m .now)
+lists c = let a = entry c in is-compact (a .args .m .now) (a .args .unit .0) (a .pre .1) (a .pre .2)
+
 get2-requires : tie.Need-get2-requires
 get2-requires c κs = search needs
 
@@ -22,7 +30,7 @@ skipped-requires : tie.Need-skipped-requires
 skipped-requires c κs = search needs
 
 sub-pairs : tie.Need-sub-pairs
-sub-pairs c = omega (arith, is-compact (c .before .before .before .before .before .before .args .m .now) (c .before .before .before .before .before .before .args .unit .0) (c .before .before .before .before .before .before .pre .1) (c .before .before .before .before .before .before .pre .2) .few, is-compact (c .before .before .before .before .before .before .args .m .now) (c .before .before .before .before .before .before .args .unit .0) (c .before .before .before .before .before .before .pre .1) (c .before .before .before .before .before .before .pre .2) .many)
+sub-pairs c = let x = lists c in omega (arith, x .few, x .many)
 
 mul-pairs : tie.Need-mul-pairs
 mul-pairs c = search needs
@@ -37,20 +45,26 @@ add-get2-2 : tie.Need-add-get2-2
 add-get2-2 c = search needs
 
 get2-requires-4 : tie.Need-get2-requires-4
-get2-requires-4 c κs = omega (arith, is-compact (c .before .before .before .before .before .before .before .args .m .now) (c .before .before .before .before .before .before .before .args .unit .0) (c .before .before .before .before .before .before .before .pre .1) (c .before .before .before .before .before .before .before .pre .2) .few, is-compact (c .before .before .before .before .before .before .before .args .m .now) (c .before .before .before .before .before .before .before .args .unit .0) (c .before .before .before .before .before .before .before .pre .1) (c .before .before .before .before .before .before .before .pre .2) .many)
+get2-requires-4 c κs = let x = lists (c .before) in omega (arith, x .few, x .many)
 
 gather-step-requires : tie.Need-gather-step-requires
 gather-step-requires c κs = search needs
 
 returns : tie.Need-returns
-returns c = let x : Compacts (c .before .before .before .before .before .before .before .before .before .args .m .now) = is-compact (c .before .before .before .before .before .before .before .before .before .args .m .now) (c .before .before .before .before .before .before .before .before .before .args .unit .0) (c .before .before .before .before .before .before .before .before .before .pre .1) (c .before .before .before .before .before .before .before .before .before .pre .2) in search (gathered! (c .before .before .before .before .before .before .before .before .before .args .m .now) (c .before .before .before .before .before .before .before .before .before .args .unit .0) (c .before .before .before .before .before .before .before .before .before .args .i) x)
+returns c =
+    let k = c .before .before .before in
+    let a = entry k in
+    search (gathered! (a .args .m .now) (a .args .unit .0) (a .args .i) (lists k))
 
 add-j : tie.Need-add-j
-add-j c = omega (arith, is-compact (c .before .before .before .before .before .before .before .args .m .now) (c .before .before .before .before .before .before .before .args .unit .0) (c .before .before .before .before .before .before .before .pre .1) (c .before .before .before .before .before .before .before .pre .2) .few, is-compact (c .before .before .before .before .before .before .before .args .m .now) (c .before .before .before .before .before .before .before .args .unit .0) (c .before .before .before .before .before .before .before .pre .1) (c .before .before .before .before .before .before .before .pre .2) .many)
+add-j c = let x = lists (c .before) in omega (arith, x .few, x .many)
 
 returns-2 : tie.Need-returns-2
 unfolding stepOf
-returns-2 c = let x : Compacts (c .before .before .before .before .before .before .before .before .args .m .now) = is-compact (c .before .before .before .before .before .before .before .before .args .m .now) (c .before .before .before .before .before .before .before .before .args .unit .0) (c .before .before .before .before .before .before .before .before .pre .1) (c .before .before .before .before .before .before .before .before .pre .2) in search (replaced! (c .before .before .before .before .before .before .before .before .args .m .now) (c .before .before .before .before .before .before .before .before .args .unit .0) (c .before .before .before .before .before .before .before .before .args .i) x)
+returns-2 c =
+    let k = c .before .before in
+    let a = entry k in
+    search (replaced! (a .args .m .now) (a .args .unit .0) (a .args .i) (lists k))
 
 mul-get2-2 : tie.Need-mul-get2-2
 mul-get2-2 c = search needs
@@ -59,15 +73,21 @@ add-get2-3 : tie.Need-add-get2-3
 add-get2-3 c = search needs
 
 get2-requires-5 : tie.Need-get2-requires-5
-get2-requires-5 c κs = omega (arith, is-compact (c .before .before .before .before .before .before .before .before .before .args .m .now) (c .before .before .before .before .before .before .before .before .before .args .unit .0) (c .before .before .before .before .before .before .before .before .before .pre .1) (c .before .before .before .before .before .before .before .before .before .pre .2) .few, is-compact (c .before .before .before .before .before .before .before .before .before .args .m .now) (c .before .before .before .before .before .before .before .before .before .args .unit .0) (c .before .before .before .before .before .before .before .before .before .pre .1) (c .before .before .before .before .before .before .before .before .before .pre .2) .many)
+get2-requires-5 c κs = let x = lists (c .before .before .before) in omega (arith, x .few, x .many)
 
 returns-3 : tie.Need-returns-3
 unfolding stepOf
-returns-3 c = let x : Compacts (c .before .before .before .before .before .before .before .before .before .before .args .m .now) = is-compact (c .before .before .before .before .before .before .before .before .before .before .args .m .now) (c .before .before .before .before .before .before .before .before .before .before .args .unit .0) (c .before .before .before .before .before .before .before .before .before .before .pre .1) (c .before .before .before .before .before .before .before .before .before .before .pre .2) in search (removed! (c .before .before .before .before .before .before .before .before .before .before .args .m .now) (c .before .before .before .before .before .before .before .before .before .before .args .unit .0) (c .before .before .before .before .before .before .before .before .before .before .args .i) x)
+returns-3 c =
+    let k = c .before .before .before .before in
+    let a = entry k in
+    search (removed! (a .args .m .now) (a .args .unit .0) (a .args .i) (lists k))
 
 returns-4 : tie.Need-returns-4
 unfolding stepOf
-returns-4 c = let x : Compacts (c .before .before .before .before .before .before .before .before .before .args .m .now) = is-compact (c .before .before .before .before .before .before .before .before .before .args .m .now) (c .before .before .before .before .before .before .before .before .before .args .unit .0) (c .before .before .before .before .before .before .before .before .before .pre .1) (c .before .before .before .before .before .before .before .before .before .pre .2) in search (closed! (c .before .before .before .before .before .before .before .before .before .args .m .now) (c .before .before .before .before .before .before .before .before .before .args .unit .0) (c .before .before .before .before .before .before .before .before .before .args .i) x)
+returns-4 c =
+    let k = c .before .before .before in
+    let a = entry k in
+    search (closed! (a .args .m .now) (a .args .unit .0) (a .args .i) (lists k))
 
 pub compact-step-spec : {M : Type 1} → statement M
 compact-step-spec =

@@ -16,7 +16,9 @@ byte-at-requires : tie.Need-byte-at-requires
 byte-at-requires c κs = search needs
 
 second-base-requires : tie.Need-second-base-requires
-second-base-requires c κs = let a = c .before .before .before .before .before in omega (arith, is-swap (a .args .m .now) (a .args .unit .0) (a .pre .1) (sym (c .before .byte-at .ensures .0) ∙ c .if1 .taken) .few)
+second-base-requires c κs =
+    let a = c .before .before .before .before .before in
+    omega (arith, is-swap (a .args .m .now) (a .args .unit .0) (a .pre .1) (sym (c .before .byte-at .ensures .0) ∙ c .if1 .taken) .few)
 
 add-get2 : tie.Need-add-get2
 add-get2 c = search needs

@@ -36,7 +36,10 @@ mul-result-2 : tie.Need-mul-result-2
 mul-result-2 c = search needs
 
 sub-result : tie.Need-sub-result
-sub-result c = omega (arith, count-room (c .before .before .before .before .before .before .before .before .args .m .now) (c .before .before .before .before .before .before .before .before .args .unit .0) (c .before .before .before .before .before .before .before .before .pre .1) _ (c .before .before .before .before .before .before .byte-at .ensures .0) (c .before .before .before .before .before .if1 .left) (c .before .before .before .before .if2 .left))
+sub-result c =
+    let k = c .before .before .before .before in
+    let a = k .before .before .before .before in
+    omega (arith, count-room (a .args .m .now) (a .args .unit .0) (a .pre .1) _ (k .before .before .byte-at .ensures .0) (k .before .if1 .left) (k .if2 .left))
 
 returns-3 : tie.Need-returns-3
 returns-3 c = search count-compact!

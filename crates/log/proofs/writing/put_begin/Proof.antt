@@ -47,7 +47,17 @@ same-length : tie.Need-same-length
 same-length c = search needs
 
 returns : tie.Need-returns
-returns c = let a = c .before .before .before .before .before .before .before .before .before .before .before .before .before .before .before .before .before .before .before .before .before .before .before .before .before .before .before in begin-written (a .args .s .now) (a .args .at) (a .args .n .0) (a .args .unit .0) (a .args .kind) (a .args .fill) (a .args .bases .now) (a .args .leaves .now) (a .args .dest .0) (a .pre .2) _ _ _ _ _ _ (c .before .before .before .before .before .before .before .before .before .before .before .before .before .before .before .before .before .before .before .before .before .before .put-unit .ensures) (c .before .before .before .before .before .before .before .before .before .before .before .before .before .before .before .before .before .before .put-counts .ensures) (c .before .before .before .before .before .before .before .before .before .before .before .before .before .before .put-fields .ensures) (c .before .before .before .before .before .before .before .before .before .before .put-fields2 .ensures) (c .before .before .before .before .before .before .put2 .ensures) (c .before .before .put22 .ensures)
+returns c =
+    let zero = c .before .before in
+    let dest = zero .before .before .before .before in
+    let leaves = dest .before .before .before .before in
+    let bases = leaves .before .before .before .before in
+    let counts = bases .before .before .before .before in
+    let unit = counts .before .before .before .before in
+    let k = unit .before .before .before .before .before in
+    let a = k .args in
+    begin-written (a .s .now) (a .at) (a .n .0) (a .unit .0) (a .kind) (a .fill) (a .bases .now) (a .leaves .now) (a .dest .0) (k .pre .2) _ _ _ _ _ _
+    (unit .put-unit .ensures) (counts .put-counts .ensures) (bases .put-fields .ensures) (leaves .put-fields2 .ensures) (dest .put2 .ensures) (zero .put22 .ensures)
 
 pub put-begin-spec : {M : Type 1} → statement M
 put-begin-spec =

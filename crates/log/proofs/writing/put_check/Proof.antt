@@ -29,7 +29,9 @@ same-length : tie.Need-same-length
 same-length c = search needs
 
 returns : tie.Need-returns
-returns c = let a = c .before .before .before .before .before .before .before .before .before .before .before .before .before .before .before .before .before .before .before .before in cc (check-puts (a .args .s .now) (a .args .n .0) (a .args .unit .0) (a .args .there) (a .args .key) (a .pre))
+returns c =
+    let a = c .before .before .before .before .before .before .before .before .before .before .before .before .before .before .before .before .before .before .before .before in
+    cc (check-puts (a .args .s .now) (a .args .n .0) (a .args .unit .0) (a .args .there) (a .args .key) (a .pre))
 
 pub put-check-spec : {M : Type 1} → statement M
 put-check-spec =

@@ -20,7 +20,9 @@ same-length : tie.Need-same-length
 same-length c = search needs
 
 returns : tie.Need-returns
-returns c = let a = c .before .before .before .before .before .before .before .before .before .before in cc (in-puts (a .args .s .now) (a .args .at) (a .args .n .0) (a .args .org .0) (a .args .dest .0) (a .args .back) (a .args .rows) (a .pre .1))
+returns c =
+    let a = c .before .before .before .before .before .before .before .before .before .before in
+    cc (in-puts (a .args .s .now) (a .args .at) (a .args .n .0) (a .args .org .0) (a .args .dest .0) (a .args .back) (a .args .rows) (a .pre .1))
 
 pub put-in-spec : {M : Type 1} → statement M
 put-in-spec =

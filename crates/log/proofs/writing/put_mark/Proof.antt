@@ -26,7 +26,9 @@ same-length : tie.Need-same-length
 same-length c = simp length-set
 
 returns : tie.Need-returns
-returns c = let a = c .before .before .before in rw (c .before .lead .ensures, c .sign .ensures) (set2 (a .args .s .now) (a .args .at) _ _ (a .pre .1))
+returns c =
+    let a = c .before .before .before in
+    rw (c .before .lead .ensures, c .sign .ensures) (set2 (a .args .s .now) (a .args .at) _ _ (a .pre .1))
 
 pub put-mark-spec : {M : Type 1} → statement M
 put-mark-spec =

@@ -26,7 +26,9 @@ same-length : tie.Need-same-length
 same-length c = search needs
 
 returns : tie.Need-returns
-returns c = let a = c .before .before .before .before .before .before .before .before .before .before .before .before .before .before in cc (modify-puts (a .args .s .now) (a .args .at) (a .args .n .0) (a .args .base .0) (a .args .old .0) (a .args .new .0) (a .args .key) (a .pre .1))
+returns c =
+    let a = c .before .before .before .before .before .before .before .before .before .before .before .before .before .before in
+    cc (modify-puts (a .args .s .now) (a .args .at) (a .args .n .0) (a .args .base .0) (a .args .old .0) (a .args .new .0) (a .args .key) (a .pre .1))
 
 pub put-modify-spec : {M : Type 1} → statement M
 put-modify-spec =

@@ -42,7 +42,9 @@ same-length : tie.Need-same-length
 same-length c = search needs
 
 returns : tie.Need-returns
-returns c = let a = c .before .before .before .before .before .before .before .before .before .before .before .before .before .before .before .before .before .before .before .before .before .before .before in cc (paged-puts (a .args .s .now) (a .args .at) (kindAt (a .args .k)) (a .args .rows) (a .args .n .0) (a .args .a .0) (a .args .b .0) (a .args .c) (a .pre .3))
+returns c =
+    let a = c .before .before .before .before .before .before .before .before .before .before .before .before .before .before .before .before .before .before .before .before .before .before .before in
+    cc (paged-puts (a .args .s .now) (a .args .at) (kindAt (a .args .k)) (a .args .rows) (a .args .n .0) (a .args .a .0) (a .args .b .0) (a .args .c) (a .pre .3))
 
 pub put-paged-spec : {M : Type 1} → statement M
 put-paged-spec =

@@ -9,7 +9,8 @@ use mathlib.Core.Path.{_≡_, refl, sym, ap, _∙_, subst}
 use mathlib.Core.Logic.{_⊎_, ⊎-elim}
 use mathlib.Core.List.{List, [], _∷_, _++_, append-assoc, append-nil}
 use lib.ListN.{length, take, drop, getD, set, take-append-drop, length-set, length-append, length-take, length-drop, List·getD-append}
-use lib.Seq.{paste, paste-zero, paste-suc, take-all, sets, sets-eq, ext-getD, drop-drop, length-take-le, getD-append-add, getD-take, getD-drop, take-add, take-length, take-append-le, drop-append-le, take-append-add, drop-append-add, take-at, drop-at}
+use lib.Seq.{paste, paste-zero, paste-suc, take-all, sets, sets-eq, ext-getD, drop-drop, length-take-le, getD-append-add, getD-take, getD-drop}
+use lib.Seq.{take-add, take-length, take-append-le, drop-append-le, take-append-add, drop-append-add, take-at, drop-at}
 use borrow.Rule.Slice.PartMut.{putMid}
 use Rattle.field.specs.Bytes.{part, put}
 

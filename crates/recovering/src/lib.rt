@@ -84,7 +84,8 @@ fn finish(work: &mut [u8], log: &mut [u8], found: Walk) -> Finished
 // A refusal after records may have been appended: they are taken back, so that the log is as it was found.
 fn taken_back(n: Numbers, work: &mut [u8], log: &mut [u8], end: usize, reply: u8) -> RecoverAnswer
     requires { ⌜ (length (now work) ≡ 16384) × (length (now log) ≡ 8192) × (end ≤ 8192) ⌝ }
-    ensures { λ r. ⌜ (now (log .exit) ≡ put end (zeroes (8192 - end)) (now (log .entry))) × (now (work .exit) ≡ zeroes 16384) × (r .recovered .reply ≡ reply) × (r .recovered .count ≡ 0) × (r .numbers .used ≡ n .used) × (r .numbers .forced ≡ n .forced) ⌝ }
+    ensures { λ r. ⌜ (now (log .exit) ≡ put end (zeroes (8192 - end)) (now (log .entry))) × (now (work .exit) ≡ zeroes 16384)
+        × (r .recovered .reply ≡ reply) × (r .recovered .count ≡ 0) × (r .numbers .used ≡ n .used) × (r .numbers .forced ≡ n .forced) ⌝ }
 {
     field::clear(log, end, 8192 - end);
     blanked(n, work, reply)

@@ -47,7 +47,8 @@ fn in_again(work: &mut [u8], log: &[u8], w: Walk, dest: PageNo, back: u32) -> bo
 // The LM at the walk's end.
 fn point_again(work: &mut [u8], log: &[u8], w: Walk, base: PageNo, old: PageNo, new: PageNo) -> bool
     requires { ⌜ (length (now work) ≡ 16384) × (w .number .0 < 4294967295) × PointReads (now log) w (base .0) ⌝ }
-    ensures { λ r. ⌜ ((other : Bool) → Did (repeat (w .number .0 + 1) (recordAt (now (log .entry)) w (point (base .0) (old .0) (new .0) other)) (now (work .entry))) (now (work .entry)) r (now (work .exit))) ⌝ }
+    ensures { λ r. ⌜ ((other : Bool) → Did (repeat (w .number .0 + 1) (recordAt (now (log .entry)) w (point (base .0) (old .0) (new .0) other)) (now (work .entry)))
+        (now (work .entry)) r (now (work .exit))) ⌝ }
 {
     let key = field::get4(log, w.at + 20);
     apply::repeat_modify(work, base, old, new, key, LogNo(w.number.0 + 1))

@@ -80,7 +80,8 @@ fn least_after(pg: &[u8]) -> u64
 // Whether k records in order may be appended to a page: it is empty or a leaf that ends below their keys, with room for them.
 fn takes(pg: &[u8], rs: &[u8], k: u16) -> bool
     requires { ⌜ (1 ≤ k) × (k ≤ 15) × (length (now rs) ≡ 16 * k) × (ascendRecords 0 (rowsOf 16 k (now rs)) ≡ true) ⌝ }
-    ensures { λ r. ⌜ r ≡ all (pick (isEmpty (now (pg .entry))) true (isLeaf (now (pg .entry))) ∷ leb (length (records (now (pg .entry))) + k) 15 ∷ ascendRecords (above 0 (records (now (pg .entry)))) (rowsOf 16 k (now (rs .entry))) ∷ []) ⌝ }
+    ensures { λ r. ⌜ r ≡ all (pick (isEmpty (now (pg .entry))) true (isLeaf (now (pg .entry))) ∷ leb (length (records (now (pg .entry))) + k) 15
+        ∷ ascendRecords (above 0 (records (now (pg .entry)))) (rowsOf 16 k (now (rs .entry))) ∷ []) ⌝ }
 {
     if !open_to(pg) {
         return false;

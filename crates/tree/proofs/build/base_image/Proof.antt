@@ -16,7 +16,8 @@ blank-requires : tie.Need-blank-requires
 blank-requires c κs = search needs
 
 returns : tie.Need-returns
-returns c = let a = c .before .before .before in base-none (a .args .f) (a .args .g) (a .args .records .now) (a .pre .0) (a .args .j) (c .blank .result) (omega (arith, a .pre .1, c .before .if1 .taken)) (c .blank .ensures)
+returns c = let a = c .before .before .before in base-none (a .args .f) (a .args .g) (a .args .records .now) (a .pre .0) (a .args .j) (c .blank .result)
+    (omega (arith, a .pre .1, c .before .if1 .taken)) (c .blank .ensures)
 
 sub-least : tie.Need-sub-least
 sub-least c = search needs
@@ -36,8 +37,14 @@ entries-image-requires c κs =
     let m = c .least in
     let em : m .result ≡ min (a .args .g) (pieces (length (a .args .records .now) / 16) (a .args .f) - a .args .g * a .args .j) =
     m .ensures ∙ ap (λ (x : ℕ). min (a .args .g) (x - a .args .g * a .args .j)) (a .pre .1) in
-    let h : a .args .g * a .args .j < pieces (length (a .args .records .now) / 16) (a .args .f) = omega (arith, a .pre .1, c .before .if1 .left) in
-    (a .pre .0 .leaf-least, omega arith, omega (arith, a .pre .0 .base-most), omega (arith, a .pre .0 .leaves), base-leaves (a .args .f) (a .args .g) (a .args .records .now) (a .pre .0) (a .args .j) (m .result) h em)
+    let h : a .args .g * a .args .j < pieces (length (a .args .records .now) / 16) (a .args .f) = omega (arith, a .pre .1, c .before .if1 .left) in (
+      a .pre .0 .leaf-least,
+      omega arith,
+      omega (arith, a .pre .0 .base-most),
+      omega (arith, a .pre .0 .leaves),
+      base-leaves (a .args .f) (a .args .g)
+          (a .args .records .now) (a .pre .0) (a .args .j) (m .result) h em,
+    )
 
 returns-2 : tie.Need-returns-2
 returns-2 c =

@@ -15,7 +15,7 @@ use Rattle.field.proofs.Part.{put-whole}
 use Rattle.field.proofs.Number.{le2-small}
 use Rattle.page.specs.Page.{count}
 use Rattle.page.specs.Pages.{page, pages}
-use Rattle.page.proofs.Rows.{nil}
+use Rattle.page.specs.Each.{nil}
 use Rattle.page.proofs.Pages.{bytes-page}
 use Rattle.log.specs.Record.{Begin, LB, lengthOf, kindOf, carried, size, encode}
 use Rattle.log.specs.Plan.{Step, takeOut, bringIn, point, close, gather, removals, others, replacing, compactPlan, movePlan, swapPlan, plan}

@@ -34,7 +34,8 @@ use Rattle.unit.specs.declared.entry.Lowest.{Lowest}
 use Rattle.unit.specs.declared.entry.Lowest.the-variants.{Nothing, Key}
 use Rattle.unit.proofs.Applied.{out-own, can-page}
 use Rattle.store.specs.Calls.{Went, stopped, went, didOf, todoOf, append}
-use Rattle.forward.specs.Appends.{appendFirst, appendNext, replyIn, workIn, logIn, Goes, toCome, nextStep, tested}
+use Rattle.unit.specs.Again.{nextStep}
+use Rattle.forward.specs.Appends.{appendFirst, appendNext, replyIn, workIn, logIn, Goes, toCome, tested}
 use Rattle.forward.proofs.Stands.{Stands, at-is, number-is, steps-are, todo-is, skip-is}
 
 -- ---- what the code leaves

@@ -18,7 +18,7 @@ use Rattle.log.specs.Record.{out, lengthOf, Rec, kindOf, carried, size, encode}
 use Rattle.log.specs.Plan.{Step, takeOut, bringIn, point, close}
 use Rattle.log.specs.Log.{Open, State, going, openedBy, after, Log, readLog, atEnd}
 use Rattle.log.proofs.Plan.{Works, works-out, works-in, works-point, Ending}
-use Rattle.log.proofs.Valid.{Does, does-out, does-in, does-point, does-close, Follows, goes, Fits, Good}
+use Rattle.log.specs.Valid.{Does, does-out, does-in, does-point, does-close, Follows, goes, Fits, Good}
 use Rattle.log.proofs.Sound.{Waits, Awaits, waits-open, sound-atEnd}
 use Rattle.log.proofs.Read.{readLog-facts}
 use Rattle.log.proofs.Append.{grown, atEnd-grown, readLog-put, bytes-grown, length-grown}

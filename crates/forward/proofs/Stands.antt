@@ -23,14 +23,15 @@ use Rattle.log.specs.Steps.{stepOf}
 use Rattle.log.specs.declared.scan.Walk.{Walk}
 use Rattle.log.specs.declared.steps.Planned.{Planned}
 use Rattle.log.specs.declared.steps.Planned.the-variants.{Out, In, Point, Close}
-use Rattle.log.proofs.Valid.{Does, does-point}
+use Rattle.log.specs.Valid.{Does, does-point}
 use Rattle.log.proofs.Sound.{Done, Awaits}
 use Rattle.log.proofs.Read.{readLog-facts}
 use Rattle.log.proofs.Held.{awaits}
 use Rattle.log.proofs.Toward.{Toward, Next, scanned-walk, toward-end, toward-next, shown-opened}
 use Rattle.unit.specs.Next.{keyBefore, skipped}
 use Rattle.unit.proofs.Places.{StepKeeps, Keeping, one-more, OpenKeeps, end-keeps}
-use Rattle.forward.specs.Appends.{Opened, toCome, nextStep}
+use Rattle.unit.specs.Again.{nextStep}
+use Rattle.forward.specs.Appends.{Opened, toCome}
 
 -- ---- the log that was read, and its open unit
 

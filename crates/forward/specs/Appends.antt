@@ -4,11 +4,11 @@ use Prim.Native.Nat.{ℕ}
 use mathlib.Core.Path.{_≡_}
 use mathlib.Core.Bool.{true}
 use mathlib.Core.List.{List, [], _∷_}
-use lib.ListN.{drop, getD}
+use lib.ListN.{drop}
 use lib.Dec.{leb}
 use Rattle.field.specs.Test.{need, given}
 use Rattle.field.specs.Bytes.{most4}
-use Rattle.log.specs.Plan.{Step, close, plan}
+use Rattle.log.specs.Plan.{Step, plan}
 use Rattle.log.specs.Log.{State, readBegin, readLog, atEnd}
 use Rattle.log.specs.Scan.{scanned}
 use Rattle.log.specs.declared.scan.Walk.{Walk}
@@ -51,12 +51,9 @@ pub record Opened (l : List ℕ) (w : Walk) : Type 0 where
   pub ok : w .ok ≡ true
   pub unit : w .opened ≡ true
 
--- the unit's steps to come, and the next of them
+-- the unit's steps to come
 unfoldable pub toCome : (l : List ℕ) → Walk → List Step
 toCome l w = drop (w .done) (plan (readBegin (w .unit .0) (drop (w .begin) l)))
-
-unfoldable pub nextStep : (l : List ℕ) → Walk → Step
-nextStep l w = getD (plan (readBegin (w .unit .0) (drop (w .begin) l))) (w .done) (close (w .unit .0))
 
 -- tests 6 and 7: the log's end once all that remains is appended, and the record's number; the reply, 0 where both hold
 unfoldable pub tested : (end number : ℕ) → ℕ

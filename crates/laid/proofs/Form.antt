@@ -15,7 +15,7 @@ use Rattle.field.proofs.Test.{both-intro, all-intro, all-nil, pick-true, pick-f
 use Rattle.field.proofs.Byte.{bytes-zeroes}
 use Rattle.page.specs.Page.{Kind, root, base, leaf, empty, ascend, pointing, number, made, shaped, isRoot, isEmpty, formed}
 use Rattle.page.specs.Pages.{allFormed}
-use Rattle.page.proofs.Rows.{Each, nil, Long}
+use Rattle.page.specs.Each.{Each, nil, Long}
 use Rattle.page.proofs.Made.{shaped-facts, Fit, fit-root, fit-base, fit-leaf, fit-empty, Fill, letter-made, bytes-made}
 use Rattle.page.proofs.Kept.{Changed, made-changed, changed-empty, changed-leaf, changed-base}
 use Rattle.page.proofs.Region.{formed-0, empty-formed, base-formed, leaf-formed}

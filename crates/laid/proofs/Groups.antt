@@ -9,7 +9,7 @@ use mathlib.Core.List.{List, [], _∷_, _++_}
 use lib.ListN.{length, take, drop, getD, take-append-drop, length-take, length-drop}
 use Rattle.field.proofs.Test.{both-1, both-2, both-intro}
 use Rattle.page.specs.Page.{Kind, keyOf, ascend, pointing}
-use Rattle.page.proofs.Rows.{Each, nil, cons, Long}
+use Rattle.page.specs.Each.{Each, nil, cons, Long}
 use Rattle.page.proofs.Order.{First, ascend-facts, ascend-lower, ascend-append}
 use Rattle.page.proofs.Made.{Fill}
 use Rattle.tree.specs.Layout.{groups}

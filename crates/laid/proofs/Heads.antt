@@ -16,7 +16,7 @@ use Rattle.field.proofs.Number.{le4-small, le4-drop, le4-bytes4}
 use Rattle.field.proofs.Byte.{bytes-cons, bytes-append, bytes-bytes2, bytes-bytes4}
 use Rattle.page.specs.Page.{keyOf, toPage, entry, ascend, pointing}
 use Rattle.page.specs.Change.{above}
-use Rattle.page.proofs.Rows.{Each, nil, cons, Long}
+use Rattle.page.specs.Each.{Each, nil, cons, Long}
 use Rattle.page.proofs.Order.{First, ascend-facts, ascend-of, ascend-lower, ascend-append}
 use Rattle.tree.specs.Tree.{pointers}
 use Rattle.tree.specs.Layout.{entriesFrom, fromZero}

@@ -9,7 +9,8 @@ use lib.ListN.{length, getD}
 use Rattle.field.specs.Bytes.{Bytes}
 use Rattle.page.specs.Page.{root, base, leaf, empty, joined, ascendRecords, number}
 use Rattle.page.specs.Pages.{page, pages, allFormed}
-use Rattle.page.proofs.Rows.{Each, nil, Long, each-at, length-joined, bytes-joined}
+use Rattle.page.specs.Each.{Each, nil, Long}
+use Rattle.page.proofs.Rows.{each-at, length-joined, bytes-joined}
 use Rattle.page.proofs.Pages.{getD-pages}
 use Rattle.tree.specs.Tree.{wellFormed, allRecords}
 use Rattle.tree.specs.Layout.{entriesFrom, fromZero, leafGroups, baseGroups, layout}

@@ -9,7 +9,8 @@ use lib.Seq.{getD-append-add}
 use Rattle.field.proofs.Part.{split}
 use Rattle.page.specs.Page.{Kind, root, base, leaf, empty, joined, rowsOf}
 use Rattle.page.specs.Pages.{pages}
-use Rattle.page.proofs.Rows.{Each, nil, cons, Long, each-append, joined-append, rowsOf-joined}
+use Rattle.page.specs.Each.{Each, nil, cons, Long}
+use Rattle.page.proofs.Rows.{each-append, joined-append, rowsOf-joined}
 use Rattle.tree.specs.Layout.{fresh, filled, layout, leafGroups, baseGroups, entriesFrom}
 
 -- ---- n pages: one for each group, then empty ones

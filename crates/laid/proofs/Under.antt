@@ -13,7 +13,7 @@ use Rattle.field.proofs.Test.{both-intro}
 use Rattle.field.proofs.Number.{le4-small}
 use Rattle.page.specs.Page.{keyOf, toPage, entry, ascend, rows}
 use Rattle.page.specs.Change.{above}
-use Rattle.page.proofs.Rows.{Each, cons}
+use Rattle.page.specs.Each.{Each, cons}
 use Rattle.page.proofs.Order.{First, ascend-facts}
 use Rattle.tree.specs.Tree.{under, below, startsAtZero, headed, lower, keysBetween, keysKept}
 use Rattle.tree.specs.Layout.{entriesFrom, fromZero}

@@ -15,7 +15,8 @@ use Rattle.log.specs.Record.{Rec, size, encodeCheck, encode, encodeAll}
 use Rattle.log.specs.Log.{State, first, after, afterAll, Log, readLog, atEnd, encodeLog}
 use Rattle.log.proofs.Record.{Sized, length-encode, bytes-encode}
 use Rattle.log.proofs.State.{Every, afterAll-append, encodeAll-append, number-atEnd, length-encodeLog}
-use Rattle.log.proofs.Valid.{Fits, Valid, Good, follows-sized, follows-narrow, valid-sized, valid-append}
+use Rattle.log.specs.Valid.{Fits, Valid, Good}
+use Rattle.log.proofs.Valid.{follows-sized, follows-narrow, valid-sized, valid-append}
 use Rattle.log.proofs.Read.{ReadLog, readLog-facts}
 use Rattle.log.proofs.Write.{readLog-encode}
 

@@ -15,7 +15,7 @@ use Rattle.field.proofs.Number.{bytes2-le2, length-bytes2, le2-drop}
 use Rattle.field.proofs.Part.{part-drop, length-part}
 use Rattle.field.proofs.Byte.{bytes-drop}
 use Rattle.field.proofs.Gather.{zero-cut, zero-pair}
-use Rattle.page.proofs.Rows.{Each}
+use Rattle.page.specs.Each.{Each}
 use Rattle.log.specs.Record.{Begin, Rec, LB, begin, lengthOf, kindOf, carried, size, header, fields, body, previous, encode}
 use Rattle.log.specs.Table.{kinds, kindAt}
 use Rattle.log.specs.Write.{unitHead}

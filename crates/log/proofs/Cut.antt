@@ -12,7 +12,8 @@ use Rattle.log.specs.Record.{Check, Rec, encodeCheck, encodeAll}
 use Rattle.log.specs.Log.{Log, readLog, atEnd, encodeLog, lastForced}
 use Rattle.log.proofs.Record.{Sized}
 use Rattle.log.proofs.State.{sizes, Every, every-take, encodeAll-append, at-atEnd, number-atEnd, length-encodeLog}
-use Rattle.log.proofs.Valid.{Valid, Small, Good, valid-take, valid-sized}
+use Rattle.log.specs.Valid.{Valid, Small, Good}
+use Rattle.log.proofs.Valid.{valid-take, valid-sized}
 use Rattle.log.proofs.Append.{grown}
 use Rattle.log.proofs.Write.{readLog-encode}
 use Rattle.log.proofs.Ends.{Ends, sizes-take-most, lastForced-facts, lastForced-of, lastForced-take}

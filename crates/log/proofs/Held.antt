@@ -22,7 +22,7 @@ use Rattle.log.specs.Stand.{standsBegin}
 use Rattle.log.specs.declared.scan.Walk.{Walk}
 use Rattle.log.proofs.Record.{size-least}
 use Rattle.log.proofs.Plan.{Ending, last, more}
-use Rattle.log.proofs.Valid.{Small, Does, does-out, does-in, does-point, does-close, Follows, begins, goes, Fits}
+use Rattle.log.specs.Valid.{Small, Does, does-out, does-in, does-point, does-close, Follows, begins, goes, Fits}
 use Rattle.log.proofs.Sound.{Awaits, awaits-todo, Sound, Waits, waits-open, sound-first, sound-after}
 use Rattle.log.proofs.Read.{ReadOff, readRec-facts}
 use Rattle.log.proofs.Turned.{Counted, open-reads, shut-reads}

@@ -20,7 +20,7 @@ use Rattle.log.specs.Plan.{Step, takeOut, bringIn, point, close, plan}
 use Rattle.log.specs.Log.{Open, State, going, openedBy, after, readBegin, taken, planned, plannedFirst, expected, readRec}
 use Rattle.log.specs.Scan.{bytesOf, latest, shown}
 use Rattle.log.specs.Source.{sourceAt, sourceRows, sourced}
-use Rattle.log.proofs.Valid.{Moved, Does, does-out, does-in, does-point, does-close, Follows, goes}
+use Rattle.log.specs.Valid.{Moved, Does, does-out, does-in, does-point, does-close, Follows, goes}
 use Rattle.log.proofs.Sound.{Awaits, Source, awaits-source, awaits-moved}
 use Rattle.log.proofs.Held.{Back, begin-read}
 

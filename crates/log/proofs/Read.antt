@@ -19,13 +19,14 @@ use Rattle.field.proofs.Zero.{zero-list}
 use Rattle.field.proofs.Same.{starts-eq, starts-length}
 use Rattle.field.proofs.Byte.{bytes-drop}
 use Rattle.page.specs.Page.{rowsOf, ascendRecords}
-use Rattle.page.proofs.Rows.{Each, Long, length-rowsOf, long-rowsOf, bytes-rowsOf}
+use Rattle.page.specs.Each.{Each, Long}
+use Rattle.page.proofs.Rows.{length-rowsOf, long-rowsOf, bytes-rowsOf}
 use Rattle.log.specs.Record.{lengthOf, kindOf, Check, Begin, Rec, LB, LO, carried, size, encodeCheck, encode, encodeAll}
 use Rattle.log.specs.Plan.{Step, takeOut, bringIn, point, close}
 use Rattle.log.specs.Log.{Open, State, first, after, readBegin, beginOk, planned, plannedFirst, expected, readRec, readRecs, readCheck, Log, readLog, atEnd, encodeLog}
 use Rattle.log.proofs.Record.{Sized, length-encodeCheck, length-encode}
 use Rattle.log.proofs.State.{sizes, Every, at-atEnd}
-use Rattle.log.proofs.Valid.{Does, does-out, does-in, does-point, does-close, Follows, begins, goes, Fits, Valid, Small, Good}
+use Rattle.log.specs.Valid.{Does, does-out, does-in, does-point, does-close, Follows, begins, goes, Fits, Valid, Small, Good}
 
 -- ---- one record
 

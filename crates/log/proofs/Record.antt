@@ -9,7 +9,8 @@ use Rattle.field.specs.Bytes.{Bytes, bytes2, bytes4}
 use Rattle.field.proofs.Zero.{length-zeroes}
 use Rattle.field.proofs.Byte.{bytes-nil, bytes-cons, bytes-append, bytes-zeroes, bytes-bytes2, bytes-bytes4}
 use Rattle.page.specs.Page.{joined}
-use Rattle.page.proofs.Rows.{Each, Long, length-joined, bytes-joined}
+use Rattle.page.specs.Each.{Each, Long}
+use Rattle.page.proofs.Rows.{length-joined, bytes-joined}
 use Rattle.log.specs.Record.{Kind, check, lengthOf, Check, Rec, LB, LO, LI, LM, LE, kindOf, carried, size, header, fields, lkBytes, encodeCheck, newKey, body, previous, encode}
 
 -- ---- lengths

@@ -13,7 +13,7 @@ use Rattle.field.specs.Test.{pick, given, bind}
 use Rattle.field.specs.Bytes.{Bytes, most4}
 use Rattle.field.proofs.Number.{le4-small}
 use Rattle.page.specs.Page.{keyOf}
-use Rattle.page.proofs.Rows.{Each}
+use Rattle.page.specs.Each.{Each}
 use Rattle.log.specs.Record.{Check, Rec, LB, LO, LI, LM, LE, carried}
 use Rattle.log.specs.Plan.{Step, takeOut, bringIn, close, plan}
 use Rattle.log.specs.Log.{Open, State, first, largest, largestMoved, lkEnded, going, openedBy, lkBy, unitBy, after, afterAll, beginOk, taken, Log, atEnd}
@@ -21,7 +21,8 @@ use Rattle.log.proofs.Record.{Narrow}
 use Rattle.log.proofs.State.{Every}
 use Rattle.log.proofs.Begin.{beginOk-unit}
 use Rattle.log.proofs.Plan.{Works, works-out, works-in, works-point, Ending, Fed, ending-rest, fed-rest, plan-ending, plan-fed}
-use Rattle.log.proofs.Valid.{Moved, Does, does-out, does-in, does-point, does-close, Follows, begins, goes, Fits, Valid, Small, Good, does-narrow}
+use Rattle.log.specs.Valid.{Moved, Does, does-out, does-in, does-point, does-close, Follows, begins, goes, Fits, Valid, Small, Good}
+use Rattle.log.proofs.Valid.{does-narrow}
 
 -- ---- the largest key moved
 

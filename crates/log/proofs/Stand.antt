@@ -12,7 +12,7 @@ use Rattle.field.specs.Test.{both, all}
 use Rattle.field.specs.Bytes.{put, starts, le4, bytes2, bytes4, most4}
 use Rattle.field.proofs.Test.{both-end, both-true, both-false}
 use Rattle.field.proofs.Number.{le4-drop}
-use Rattle.page.proofs.Rows.{Each}
+use Rattle.page.specs.Each.{Each}
 use Rattle.log.specs.Record.{Rec, LI, LM, LE, into, lengthOf, kindOf, carried, size, header, encode}
 use Rattle.log.specs.Write.{paged, inBytes}
 use Rattle.log.specs.Table.{kinds, kindAt}

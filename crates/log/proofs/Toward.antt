@@ -24,7 +24,7 @@ use Rattle.log.specs.Scan.{shown, lost, turned, Ready, topped, answer, s
 use Rattle.log.specs.Source.{sourced, recordAt}
 use Rattle.log.specs.declared.scan.Walk.{Walk}
 use Rattle.log.proofs.Record.{size-least}
-use Rattle.log.proofs.Valid.{Fits}
+use Rattle.log.specs.Valid.{Fits}
 use Rattle.log.proofs.Sound.{Awaits, awaits-todo}
 use Rattle.log.proofs.Read.{ReadOff, readRec-facts, readCheck-facts}
 use Rattle.log.proofs.Append.{grown, readLog-put, bytes-grown}

@@ -1,5 +1,4 @@
--- Which record may come next after a state, chains of such records, and logs made of one: the logs that recovery accepts and that the
--- calls write. Assumes nothing.
+-- Laws of records that may come next, of chains of them, and of logs made of one. Assumes nothing.
 use Prim.Native.Nat.{ℕ, zero, suc, _+_, _≤_}
 use mathlib.Core.Path.{_≡_}
 use mathlib.Core.Bool.{Bool, true}
@@ -8,54 +7,14 @@ use mathlib.Core.Option.{Option, some, none}
 use lib.ListN.{length, take}
 use Rattle.field.specs.Bytes.{Bytes, most4}
 use Rattle.page.specs.Page.{ascendRecords}
-use Rattle.page.proofs.Rows.{Each, Long}
+use Rattle.page.specs.Each.{Each, Long}
 use Rattle.log.specs.Record.{Check, Begin, Rec, LB, LO, LI, LM, LE, carried}
 use Rattle.log.specs.Plan.{Step, takeOut, bringIn, point, close}
 use Rattle.log.specs.Log.{Open, State, first, after, afterAll, beginOk, taken, Log}
+use Rattle.log.specs.Valid.{Moved, Does, does-out, does-in, does-point, does-close, Follows, begins, goes, Fits, Valid, nil, cons, Small, Good}
 use Rattle.log.proofs.Record.{Sized, Narrow}
 use Rattle.log.proofs.State.{Every}
 use Rattle.log.proofs.Begin.{beginOk-narrow}
-
--- the rows of an LO: 1 to 15 of 16 bytes, marked, their keys ascending
-pub record Moved (rs : List (List ℕ)) : Type 0 where
-  pub some-rows : 1 ≤ length rs
-  pub few-rows : length rs ≤ 15
-  pub long : Each (Long 16) rs
-  pub bytes : Each Bytes rs
-  pub order : ascendRecords 0 rs ≡ true
-
--- the record does the step, in a unit whose records so far are did, the latest first
-pub data Does (did : List Rec) : Step → Rec → Type 0 where
-  does-out : {org dest : ℕ} {rs : List (List ℕ)} → Moved rs → Does did (takeOut org dest) (LO org dest rs)
-  does-in : {org dest back : ℕ} {rs : List (List ℕ)} → rs ≡ taken back did → Does did (bringIn org dest back) (LI org dest back rs)
-  does-point : {base old new key : ℕ} {other : Bool} → key ≤ most4 → Does did (point base old new other) (LM base old new key)
-  does-close : {unit : ℕ} → Does did (close unit) (LE unit)
-
--- where no unit is open, a begin record of the next unit; otherwise the first step to come
-pub data Follows (unit : ℕ) : Option Open → Rec → Type 0 where
-  begins : {g : Begin} → g .unit ≡ unit + 1 → beginOk g ≡ true → Follows unit none (LB g)
-  goes : {o : Open} {x : Step} {xs : List Step} {r : Rec} → o .todo ≡ x ∷ xs → Does (o .did) x r → Follows unit (some o) r
-
--- the record may come next, and has a number
-pub record Fits (s : State) (r : Rec) : Type 0 where
-  pub room : s .number + 1 ≤ most4
-  pub follows : Follows (s .unit) (s .opened) r
-
--- each record may come next after those before it
-pub data Valid : State → List Rec → Type 0 where
-  nil : {s : State} → Valid s []
-  cons : {s : State} {r : Rec} {rs : List Rec} → Fits s r → Valid (after s r) rs → Valid s (r ∷ rs)
-
--- a check record whose numbers fit four bytes
-pub record Small (c : Check) : Type 0 where
-  pub number : c .number ≤ most4
-  pub unit : c .unit ≤ most4
-  pub lk : (k : ℕ) → c .lk ≡ some k → k ≤ most4
-
--- a log whose records each may come next
-pub record Good (g : Log) : Type 0 where
-  pub top : Small (g .top)
-  pub valid : Valid (first (g .top)) (g .recs)
 
 -- ---- a record that fits can be written
 

@@ -25,7 +25,8 @@ use Rattle.log.specs.Log.{Open, State, first, after, within, beginOk, re
 use Rattle.log.proofs.Record.{length-fields, length-encodeCheck, length-encode, encode-first}
 use Rattle.log.proofs.State.{sizes, sizes-least, length-encodeAll}
 use Rattle.log.proofs.Begin.{Limits, within-head, within-tail, beginOk-limits, beginOk-bases, beginOk-leaves}
-use Rattle.log.proofs.Valid.{Does, does-out, does-in, does-point, does-close, Follows, begins, goes, Fits, Valid, Small, Good, follows-sized, valid-sized}
+use Rattle.log.specs.Valid.{Does, does-out, does-in, does-point, does-close, Follows, begins, goes, Fits, Valid, Small, Good}
+use Rattle.log.proofs.Valid.{follows-sized, valid-sized}
 
 -- ---- a begin record
 

@@ -5,6 +5,7 @@ pub mod Write
 pub mod Plan
 pub mod Steps
 pub mod Log
+pub mod Valid
 pub mod Stand
 pub mod Scan
 pub mod Source

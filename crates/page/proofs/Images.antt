@@ -8,7 +8,8 @@ use lib.Seq.{take-length}
 use Rattle.field.specs.Bytes.{put, bytes2, bytes4}
 use Rattle.field.proofs.Part.{length-part}
 use Rattle.page.specs.Page.{rowsOf, joined, entry, letter, count, number, spare, rows, made}
-use Rattle.page.proofs.Rows.{Each, Long, length-rowsOf, length-rows, joined-rowsOf, length-joined, long-rowsOf}
+use Rattle.page.specs.Each.{Each, Long}
+use Rattle.page.proofs.Rows.{length-rowsOf, length-rows, joined-rowsOf, length-joined, long-rowsOf}
 use Rattle.page.proofs.Written.{topped, body, made-topped, topped-put, topped-count, body-append}
 use Rattle.page.proofs.Made.{letter-made, number-made, spare-made, rows-made}
 

@@ -17,7 +17,8 @@ use Rattle.field.proofs.Zero.{length-zeroes}
 use Rattle.field.proofs.Byte.{bytes-drop, bytes-part, bytes-put, bytes-bytes2}
 use Rattle.page.specs.Page.{Kind, base, leaf, empty, joined, ascend, ascendRecords, pointing, count, number, spare, rows, entries, records, made, shaped, isBase, isLeaf, isEmpty}
 use Rattle.page.specs.Change.{above, emptied, appended, has, pointTo, without, redirected, removed}
-use Rattle.page.proofs.Rows.{Each, nil, Long, each-append, bytes-rowsOf}
+use Rattle.page.specs.Each.{Each, nil, Long}
+use Rattle.page.proofs.Rows.{each-append, bytes-rowsOf}
 use Rattle.page.proofs.Order.{ascend-append, Found, has-found, without-at, each-without, ascend-without, pointing-without}
 use Rattle.page.proofs.Order.{length-pointTo, each-pointTo, long-pointed, ascend-pointTo, pointing-pointTo}
 use Rattle.page.proofs.Written.{body, body-of}

@@ -16,7 +16,8 @@ use Rattle.field.proofs.Number.{le2-drop, le4-drop, le2-bytes2, le4-bytes4}
 use Rattle.field.proofs.Zero.{length-zeroes, zeroes-of, all-zeroes}
 use Rattle.field.proofs.Byte.{bytes-cons, bytes-append, bytes-bytes2, bytes-bytes4, bytes-zeroes}
 use Rattle.page.specs.Page.{Kind, root, base, leaf, empty, joined, ascend, letter, count, number, spare, rows, made, shaped}
-use Rattle.page.proofs.Rows.{Each, Long, length-rows, length-joined, rowsOf-joined, bytes-joined}
+use Rattle.page.specs.Each.{Each, Long}
+use Rattle.page.proofs.Rows.{length-rows, length-joined, rowsOf-joined, bytes-joined}
 use Rattle.page.proofs.Written.{topped, made-topped, topped-is, body-of}
 
 -- ---- what stands in a page that was made

@@ -17,7 +17,7 @@ use Rattle.field.proofs.Part.{length-put, getD-put-before}
 use Rattle.field.proofs.Number.{length-bytes2, le4-put-other, le2-put}
 use Rattle.page.specs.Page.{keyOf, toPage, ascend, pointing}
 use Rattle.page.specs.Change.{above, isEntry, has, pointTo, without}
-use Rattle.page.proofs.Rows.{Each, nil, cons, Long}
+use Rattle.page.specs.Each.{Each, nil, cons, Long}
 
 -- ---- rows in order
 

@@ -11,17 +11,10 @@ use Rattle.field.specs.Bytes.{part, Bytes, le2, le4}
 use Rattle.field.proofs.Part.{part-part, part-drop}
 use Rattle.field.proofs.Number.{le2-part, le4-part}
 use Rattle.field.proofs.Byte.{bytes-nil, bytes-append, bytes-take, bytes-drop}
+use Rattle.page.specs.Each.{Each, nil, cons, Long}
 use Rattle.page.specs.Page.{rowsOf, joined, keyOf, toPage, valueOf, count, rows}
 
 -- ---- a property of each row
-
-pub data Each (P : List ℕ → Type 0) : List (List ℕ) → Type 0 where
-  nil : Each P []
-  cons : {r : List ℕ} {rs : List (List ℕ)} → P r → Each P rs → Each P (r ∷ rs)
-
--- a row is sz bytes long
-abbrev pub Long : ℕ → List ℕ → Type 0
-Long sz r = length r ≡ sz
 
 module _ {P : List ℕ → Type 0} where
   pub each-append : {a b : List (List ℕ)} → Each P a → Each P b → Each P (a ++ b)

@@ -12,7 +12,8 @@ use Rattle.field.proofs.Part.{length-part, length-put, drop-cut, part-past, par
 use Rattle.field.proofs.Number.{length-bytes2, length-bytes4, bytes2-le2, bytes4-le4}
 use Rattle.field.proofs.Zero.{length-zeroes, drop-zeroes, zeroes-append}
 use Rattle.page.specs.Page.{joined, letter, count, number, spare, rows, made}
-use Rattle.page.proofs.Rows.{Each, nil, cons, Long, each-at, joined-rowsOf, joined-append, length-joined, rowsOf-joined, getD-rowsOf}
+use Rattle.page.specs.Each.{Each, nil, cons, Long}
+use Rattle.page.proofs.Rows.{each-at, joined-rowsOf, joined-append, length-joined, rowsOf-joined, getD-rowsOf}
 
 -- a page from its letter, count and number on
 unfoldable pub topped : (c v n : ℕ) → List ℕ → List ℕ

@@ -1,5 +1,6 @@
 -- The form of a page, what a log record does to one, and 64 of them side by side.
 pub mod Page
+pub mod Each
 pub mod Shape
 pub mod Change
 pub mod Results

@@ -16,7 +16,7 @@ use Rattle.log.specs.Record.{Check, Begin, Rec, LB, size, encode}
 use Rattle.log.specs.Plan.{plan}
 use Rattle.log.specs.Log.{Open}
 use Rattle.log.proofs.State.{sizes}
-use Rattle.log.proofs.Valid.{Good}
+use Rattle.log.specs.Valid.{Good}
 use Rattle.log.proofs.Sound.{Waits, waits-open, sound-atEnd}
 use Rattle.unit.specs.Choice.{compactUnit, orderUnit}
 use Rattle.unit.specs.Next.{apply, room}

@@ -21,7 +21,7 @@ use Rattle.log.specs.Plan.{Step}
 use Rattle.log.specs.Log.{Open, State, lastForced}
 use Rattle.log.proofs.State.{sizes, at-atEnd, number-atEnd}
 use Rattle.log.proofs.Plan.{Ending}
-use Rattle.log.proofs.Valid.{Good}
+use Rattle.log.specs.Valid.{Good}
 use Rattle.log.proofs.Sound.{Waits, Awaits, waits-open, sound-atEnd}
 use Rattle.tree.specs.Answer.{Found, missing, found}
 use Rattle.unit.specs.Choice.{orderUnit}

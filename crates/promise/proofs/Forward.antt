@@ -18,7 +18,7 @@ use Rattle.log.specs.Plan.{Step, close}
 use Rattle.log.specs.Log.{Open, State, going, openedBy, after}
 use Rattle.log.proofs.Plan.{Works, works-out, works-in, works-point, Ending}
 use Rattle.log.proofs.State.{number-atEnd}
-use Rattle.log.proofs.Valid.{Does, does-out, does-in, does-point, does-close, Follows, goes, Fits, Good}
+use Rattle.log.specs.Valid.{Does, does-out, does-in, does-point, does-close, Follows, goes, Fits, Good}
 use Rattle.log.proofs.Sound.{Waits, Awaits, waits-open, sound-atEnd}
 use Rattle.log.proofs.Append.{atEnd-grown, good-grown}
 use Rattle.unit.specs.Next.{apply, repeat, repeatAll, targetOf, pageOf, nextRec, room}

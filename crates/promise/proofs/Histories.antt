@@ -16,7 +16,7 @@ use Rattle.log.specs.Record.{Check, Begin, Rec}
 use Rattle.log.specs.Plan.{close, plan}
 use Rattle.log.specs.Log.{Open, beginOk, readLog}
 use Rattle.log.proofs.State.{sizes, at-atEnd}
-use Rattle.log.proofs.Valid.{Good}
+use Rattle.log.specs.Valid.{Good}
 use Rattle.log.proofs.Sound.{Waits, waits-open, awaits-todo, sound-atEnd}
 use Rattle.log.proofs.Ends.{Ends, lastForced-facts, sizes-take-less}
 use Rattle.field.proofs.Part.{split}

@@ -13,7 +13,8 @@ use Rattle.field.proofs.Byte.{bytes-append, bytes-zeroes}
 use Rattle.log.specs.Record.{Check, Rec, size, encode}
 use Rattle.log.specs.Log.{State, after, Log, readLog, encodeLog, lastForced}
 use Rattle.log.proofs.State.{sizes, at-atEnd, length-encodeLog, bytes-encodeLog}
-use Rattle.log.proofs.Valid.{Fits, Good, follows-sized, valid-sized, valid-narrow}
+use Rattle.log.specs.Valid.{Fits, Good}
+use Rattle.log.proofs.Valid.{follows-sized, valid-sized, valid-narrow}
 use Rattle.log.proofs.Read.{readLog-facts}
 use Rattle.log.proofs.Write.{readLog-encode}
 use Rattle.log.proofs.Append.{atEnd-grown, put-grown, good-grown}

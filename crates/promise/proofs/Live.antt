@@ -15,7 +15,7 @@ use Rattle.log.specs.Record.{Check, Rec, size, encode, encodeCheck, encodeAll}
 use Rattle.log.specs.Log.{encodeLog}
 use Rattle.log.proofs.State.{sizes, at-atEnd}
 use Rattle.log.proofs.Record.{length-encodeCheck}
-use Rattle.log.proofs.Valid.{Fits}
+use Rattle.log.specs.Valid.{Fits}
 use Rattle.store.specs.Calls.{Lent, lent, known, twoSized, threeSized, pagesSized, logSized, newLog}
 use Rattle.replay.specs.Store.{Formed, Reached}
 use Rattle.replay.specs.Laws.{UnitLaws}

@@ -21,7 +21,7 @@ use Rattle.log.specs.Plan.{Step, close, plan}
 use Rattle.log.specs.Log.{Open, State, going, openedBy, after}
 use Rattle.log.proofs.Plan.{Ending}
 use Rattle.log.proofs.State.{number-atEnd}
-use Rattle.log.proofs.Valid.{Does, does-out, does-in, does-point, does-close, Follows, begins, Fits, Small, Good}
+use Rattle.log.specs.Valid.{Does, does-out, does-in, does-point, does-close, Follows, begins, Fits, Small, Good}
 use Rattle.log.proofs.Cut.{good-bare}
 use Rattle.log.proofs.Sound.{Sound, Awaits, sound-atEnd}
 use Rattle.log.proofs.Append.{atEnd-grown}

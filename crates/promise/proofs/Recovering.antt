@@ -17,7 +17,7 @@ use Rattle.page.specs.Pages.{page, pages}
 use Rattle.page.proofs.Pages.{length-pages, getD-pages, formed-pages}
 use Rattle.log.specs.Record.{Check, Rec}
 use Rattle.log.proofs.State.{Every, number-atEnd}
-use Rattle.log.proofs.Valid.{Good}
+use Rattle.log.specs.Valid.{Good}
 use Rattle.unit.specs.Next.{target, change, repeat}
 use Rattle.unit.proofs.Changed.{RowsOf, at-bytes, change-bytes}
 use Rattle.store.specs.Calls.{Lent, lent, Left, left, threeSized, refused, zeroed, noneNewer, went, recovered, todoOf}

@@ -5,7 +5,8 @@ use lib.ListN.{length}
 use Rattle.log.specs.Record.{Check, Rec}
 use Rattle.log.specs.Log.{State, first, afterAll, Log, atEnd}
 use Rattle.log.proofs.State.{Every, number-atEnd}
-use Rattle.log.proofs.Valid.{Fits, Valid, nil, cons, Good, valid-split}
+use Rattle.log.specs.Valid.{Fits, Valid, nil, cons, Good}
+use Rattle.log.proofs.Valid.{valid-split}
 use Rattle.log.proofs.Sound.{Sound, sound-first, sound-after, sound-atEnd}
 use Rattle.unit.proofs.Places.{OpenKeeps, open-keeps, end-keeps}
 use Rattle.unit.proofs.Changed.{RowsOf}

@@ -15,7 +15,7 @@ use Rattle.page.specs.Pages.{page, putPage, pages}
 use Rattle.log.specs.Record.{Check, Begin, Rec, LB, size}
 use Rattle.log.specs.Plan.{Step, plan}
 use Rattle.log.specs.Log.{State, Log, atEnd}
-use Rattle.log.proofs.Valid.{Good}
+use Rattle.log.specs.Valid.{Good}
 use Rattle.tree.specs.Tree.{wellFormed, allRecords}
 use Rattle.unit.specs.Choice.{compactUnit, orderUnit}
 use Rattle.unit.specs.Next.{target, change, apply, repeat, targetOf, pageOf, nextRec, room}

@@ -13,7 +13,8 @@ use Rattle.field.specs.Bytes.{Bytes, most4}
 use Rattle.field.proofs.Part.{split}
 use Rattle.page.specs.Page.{keyOf, toPage, count, rows}
 use Rattle.page.specs.Pages.{page, pages}
-use Rattle.page.proofs.Rows.{Each, nil, cons, each-append, length-rows}
+use Rattle.page.specs.Each.{Each, nil, cons}
+use Rattle.page.proofs.Rows.{each-append, length-rows}
 use Rattle.page.proofs.Kept.{bytes-rows}
 use Rattle.page.proofs.Pages.{getD-pages, bytes-page}
 use Rattle.tree.specs.Tree.{under, below, startsAtZero, keysKept, allRecords}

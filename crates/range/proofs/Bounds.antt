@@ -10,7 +10,7 @@ use Rattle.field.specs.Test.{both}
 use Rattle.field.proofs.Test.{both-false, both-intro, pick-true, pick-false}
 use Rattle.field.proofs.Part.{split}
 use Rattle.page.specs.Page.{keyOf}
-use Rattle.page.proofs.Rows.{Each, nil, cons}
+use Rattle.page.specs.Each.{Each, nil, cons}
 use Rattle.tree.specs.Answer.{between}
 use Rattle.range.specs.Walked.{upTo}
 use Rattle.range.proofs.Rising.{Rising, rising-least}

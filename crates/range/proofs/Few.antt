@@ -14,7 +14,8 @@ use Rattle.field.proofs.Test.{all-head, both-1, both-2, pick-true, pick-false}
 use Rattle.field.proofs.Part.{split}
 use Rattle.page.specs.Page.{toPage, rows, isEmpty}
 use Rattle.page.specs.Pages.{page, pages}
-use Rattle.page.proofs.Rows.{Each, nil, cons, each-append, length-rows}
+use Rattle.page.specs.Each.{Each, nil, cons}
+use Rattle.page.proofs.Rows.{each-append, length-rows}
 use Rattle.page.proofs.Order.{pointing-at}
 use Rattle.page.proofs.Pages.{getD-pages, length-pages, formed-page}
 use Rattle.tree.specs.Tree.{under, below, baseEntries, allRecords, pointers, pointedOnce, wellFormed}

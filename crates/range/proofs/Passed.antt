@@ -11,7 +11,8 @@ use Rattle.field.specs.Bytes.{le4, part}
 use Rattle.field.proofs.Test.{pick-true, pick-false}
 use Rattle.field.proofs.Part.{split}
 use Rattle.page.specs.Page.{rowsOf, keyOf, rows, count}
-use Rattle.page.proofs.Rows.{Each, nil, cons, key-row}
+use Rattle.page.specs.Each.{Each, nil, cons}
+use Rattle.page.proofs.Rows.{key-row}
 use Rattle.page.proofs.Turns.{rows-next}
 use Rattle.tree.proofs.Turn.{none-left}
 use Rattle.range.specs.Reading.{rowsBelow}

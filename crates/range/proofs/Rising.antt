@@ -11,7 +11,8 @@ use borrow.Author.Tests.{leb-true, ltb-true}
 use Rattle.field.proofs.Test.{both-1, both-2}
 use Rattle.field.proofs.Part.{split}
 use Rattle.page.specs.Page.{keyOf, ascend, rows}
-use Rattle.page.proofs.Rows.{Each, nil, cons, each-append}
+use Rattle.page.specs.Each.{Each, nil, cons}
+use Rattle.page.proofs.Rows.{each-append}
 use Rattle.page.proofs.Order.{ascend-facts}
 use Rattle.tree.specs.Tree.{under, below, lower, keysBetween, keysKept}
 use Rattle.tree.specs.Walk.{bound}

@@ -30,7 +30,8 @@ use Rattle.unit.specs.Next.{targetOf}
 use Rattle.unit.proofs.Places.{StepKeeps}
 use Rattle.store.specs.Calls.{Lent, lent, Left, left, refused, twoSized, known, Went, stopped, went, todoOf, append, formedAt, stepWith, stepped, step}
 use Rattle.store.specs.Knows.{knows}
-use Rattle.forward.specs.Appends.{appendNext, replyIn, workIn, logIn, Goes, Opened, nextStep}
+use Rattle.unit.specs.Again.{nextStep}
+use Rattle.forward.specs.Appends.{appendNext, replyIn, workIn, logIn, Goes, Opened}
 use Rattle.store.proofs.Chain.{two-no-work, two-no-log, two-sized}
 use Rattle.store.proofs.Passed.{Knows, knows-yes, knows-no, is-shut}
 use Rattle.store.proofs.Replies.{refused-as}

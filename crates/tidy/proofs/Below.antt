@@ -11,7 +11,7 @@ use Rattle.field.specs.Test.{pick}
 use Rattle.field.proofs.Test.{both-1, both-2, both-intro}
 use Rattle.page.specs.Page.{keyOf, toPage, rows, entries, records, pointing, isBase, isLeaf, isEmpty}
 use Rattle.page.specs.Pages.{page, pages}
-use Rattle.page.proofs.Rows.{Each}
+use Rattle.page.specs.Each.{Each}
 use Rattle.page.proofs.Region.{base-pointing}
 use Rattle.page.proofs.Pages.{getD-pages}
 use Rattle.tree.specs.Tree.{under, rootEntries, below, baseEntries, headed}

@@ -13,7 +13,7 @@ use Rattle.field.specs.Bytes.{put, bytes2}
 use Rattle.field.proofs.Test.{both-1, both-2, pick-true, pick-second}
 use Rattle.page.specs.Page.{keyOf, toPage, ascend, pointing}
 use Rattle.page.specs.Change.{isEntry, has, pointTo, without}
-use Rattle.page.proofs.Rows.{Each, Long}
+use Rattle.page.specs.Each.{Each, Long}
 use Rattle.page.proofs.Order.{First, ascend-facts, key-pointed, to-pointed, entry-here}
 use Rattle.tree.specs.Tree as T
 use Rattle.unit.specs.Next.{isOther, lowestTo}

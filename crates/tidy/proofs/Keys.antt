@@ -9,7 +9,7 @@ use borrow.Author.Tests.{leb-true, ltb-true, le-leb, lt-ltb}
 use lib.Dec.{ltb}
 use Rattle.field.proofs.Test.{both-1, both-2, both-intro}
 use Rattle.page.specs.Page.{keyOf, rows}
-use Rattle.page.proofs.Rows.{Each}
+use Rattle.page.specs.Each.{Each}
 use Rattle.tree.specs.Tree.{under, below, lower, keysBetween, keysKept}
 use Rattle.tidy.proofs.Model.{Ascends, marks}
 use Rattle.tidy.proofs.Trail.{bound, back, double}

@@ -14,7 +14,7 @@ use Rattle.log.specs.Record.{Begin, Rec, LB, size}
 use Rattle.log.specs.Plan.{Step, close, plan}
 use Rattle.log.specs.Log.{Open, State, going, openedBy, after, afterAll}
 use Rattle.log.proofs.Plan.{Works, works-out, works-in, works-point, Ending, last, more, plan-ending}
-use Rattle.log.proofs.Valid.{Does, does-out, does-in, does-point, does-close, Follows, begins, goes, Fits, Valid, nil, cons}
+use Rattle.log.specs.Valid.{Does, does-out, does-in, does-point, does-close, Follows, begins, goes, Fits, Valid, nil, cons}
 use Rattle.unit.specs.Next.{apply, targetOf, pageOf, nextRec, stepSize, room}
 use Rattle.tidy.specs.Tidy.{Tidy, Carried, done, step, Keeps}
 use Rattle.tidy.proofs.Next.{next-does}

@@ -11,12 +11,12 @@ use Rattle.field.specs.Bytes.{Bytes, most4}
 use Rattle.field.proofs.Test.{when-some, bind-some}
 use Rattle.field.proofs.Number.{le4-small}
 use Rattle.page.specs.Page.{keyOf, toPage, leaf, records}
-use Rattle.page.proofs.Rows.{Each}
+use Rattle.page.specs.Each.{Each}
 use Rattle.page.proofs.Made.{Fill}
 use Rattle.page.proofs.Kept.{bytes-rows}
 use Rattle.log.specs.Record.{Rec}
 use Rattle.log.specs.Plan.{Step, takeOut, bringIn, point, close}
-use Rattle.log.proofs.Valid.{Does, does-out, does-in, does-point, does-close}
+use Rattle.log.specs.Valid.{Does, does-out, does-in, does-point, does-close}
 use Rattle.unit.specs.Next.{isOther, lowestTo, skipped, nextRec}
 use Rattle.tidy.proofs.Pages.{leaf-rows}
 

@@ -15,7 +15,7 @@ use Rattle.page.specs.Page.{base, leaf, entries, records, formed}
 use Rattle.page.specs.Pages.{page, putPage}
 use Rattle.log.specs.Record.{Rec, carried, size}
 use Rattle.log.specs.Plan.{Step, takeOut, bringIn, point, close}
-use Rattle.log.proofs.Valid.{Moved}
+use Rattle.log.specs.Valid.{Moved}
 use Rattle.unit.specs.Next.{target, change, changedAt, apply, targetOf, pageOf, nextRec, stepSize, room}
 use Rattle.unit.proofs.Places.{Leafy, Basic, Keeping, no-step, one-more}
 use Rattle.tidy.specs.Tidy.{Sound, InForm}

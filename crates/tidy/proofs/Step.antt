@@ -17,7 +17,8 @@ use Rattle.field.proofs.Same.{eq-same}
 use Rattle.page.specs.Page.{joined, keyOf, ascend, ascendRecords, spare, made, base, leaf, empty, entries, records, shaped, isBase, isLeaf, isEmpty}
 use Rattle.page.specs.Change.{above, emptied, appended, has, pointTo, without, redirected, removed}
 use Rattle.page.specs.Pages.{page, putPage}
-use Rattle.page.proofs.Rows.{Each, each-append}
+use Rattle.page.specs.Each.{Each}
+use Rattle.page.proofs.Rows.{each-append}
 use Rattle.page.proofs.Order.{First, ascend-facts, ascend-of, ascend-append}
 use Rattle.page.proofs.Made.{Fill}
 use Rattle.page.proofs.Rows.{length-rows}
@@ -26,7 +27,7 @@ use Rattle.page.proofs.Pages.{bytes-page}
 use Rattle.log.specs.Record.{out, lengthOf, Rec, LO, LI, LM, LE, kindOf, carried, size}
 use Rattle.log.specs.Plan.{Step, takeOut, bringIn, point}
 use Rattle.log.specs.Log.{taken}
-use Rattle.log.proofs.Valid.{Moved}
+use Rattle.log.specs.Valid.{Moved}
 use Rattle.unit.specs.Next.{target, change, targetOf, pageOf, skipped, lowestTo, nextRec, stepSize, room}
 use Rattle.unit.proofs.Places.{Leafy, Basic}
 use Rattle.page.proofs.Region.{empty-formed, leaf-formed, base-formed}

@@ -17,7 +17,8 @@ use Rattle.field.proofs.Number.{le4-small}
 use Rattle.field.proofs.Byte.{bytes-nil}
 use Rattle.page.specs.Page.{rowsOf, keyOf, toPage, count, rows, entries}
 use Rattle.page.specs.Pages.{page, pages}
-use Rattle.page.proofs.Rows.{Each, nil, cons, key-row, each-at, length-rows}
+use Rattle.page.specs.Each.{Each, nil, cons}
+use Rattle.page.proofs.Rows.{key-row, each-at, length-rows}
 use Rattle.page.proofs.Kept.{bytes-rows}
 use Rattle.page.proofs.Turns.{rows-next}
 use Rattle.page.proofs.Order.{key-less}

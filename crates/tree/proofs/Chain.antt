@@ -16,7 +16,8 @@ use Rattle.field.proofs.Part.{split}
 use Rattle.field.proofs.Zero.{getD-zeroes}
 use Rattle.page.specs.Page.{rowsOf, keyOf, toPage, pointing, count, rows}
 use Rattle.page.specs.Pages.{page, pages}
-use Rattle.page.proofs.Rows.{Each, length-rows, bytes-rowsOf}
+use Rattle.page.specs.Each.{Each}
+use Rattle.page.proofs.Rows.{length-rows, bytes-rowsOf}
 use Rattle.page.proofs.Pages.{getD-pages, length-pages}
 use Rattle.tree.specs.Tree.{under, rootEntries, below, baseEntries, pointers, pointedOnce, startsAtZero, headed, keysKept, wellFormed}
 use Rattle.tree.specs.Walk.{InForm, Below, Above, Tallied, Roomy, keptTo, levelTo, rightly}

@@ -16,7 +16,8 @@ use Rattle.field.proofs.Zero.{length-zeroes}
 use Rattle.field.proofs.Test.{pick-either}
 use Rattle.field.proofs.Number.{le2-drop, le4-drop, le2-bytes2, le4-bytes4, le4-small}
 use Rattle.page.specs.Page.{leaf, rowsOf, keyOf, toPage, entry, letter, count, number, spare, rows, made}
-use Rattle.page.proofs.Rows.{Each, nil, cons, Long, getD-rowsOf, key-row, length-rowsOf}
+use Rattle.page.specs.Each.{Each, nil, cons, Long}
+use Rattle.page.proofs.Rows.{getD-rowsOf, key-row, length-rowsOf}
 use Rattle.page.proofs.Made.{count-made}
 use Rattle.page.proofs.Images.{made-more, made-again}
 use Rattle.tree.specs.Layout.{groups, entriesFrom, fromZero, fresh, leafGroups, baseGroups}

@@ -7,7 +7,8 @@ use mathlib.Core.List.{List, [], _∷_, _++_}
 use lib.ListN.{length, take, drop, length-drop}
 use Rattle.page.specs.Page.{rowsOf, toPage, count, rows}
 use Rattle.page.specs.Pages.{page, pages}
-use Rattle.page.proofs.Rows.{Each, nil, cons, Long, each-append, long-rowsOf}
+use Rattle.page.specs.Each.{Each, nil, cons, Long}
+use Rattle.page.proofs.Rows.{each-append, long-rowsOf}
 use Rattle.page.proofs.Pages.{getD-pages, lent-page, length-page}
 use Rattle.field.specs.Test.{pick}
 use Rattle.tree.specs.Tree.{under, below, allRecords}

@@ -16,7 +16,8 @@ use Rattle.field.proofs.Part.{split}
 use Rattle.field.proofs.Zero.{length-zeroes}
 use Rattle.page.specs.Page.{Kind, root, base, leaf, empty, rowsOf, joined, made}
 use Rattle.page.specs.Pages.{page, putPage}
-use Rattle.page.proofs.Rows.{Each, nil, Long, long-rowsOf, length-joined, joined-append, rowsOf-joined, getD-rowsOf}
+use Rattle.page.specs.Each.{Each, nil, Long}
+use Rattle.page.proofs.Rows.{long-rowsOf, length-joined, joined-append, rowsOf-joined, getD-rowsOf}
 use Rattle.page.proofs.Made.{length-made}
 use Rattle.page.proofs.Pages.{page-putPage-same, page-putPage-other, pages-ext}
 use Rattle.tree.specs.Layout.{entriesFrom, fresh, filled, leafGroups, baseGroups, layout}

@@ -14,7 +14,8 @@ use Rattle.field.specs.Bytes.{part, put, le4}
 use Rattle.field.proofs.Test.{both-1, both-2, both-true, both-false, pick-either}
 use Rattle.field.proofs.Part.{split, length-part, length-put, put-next, lent-part}
 use Rattle.page.specs.Page.{rowsOf, joined, keyOf, count, rows}
-use Rattle.page.proofs.Rows.{Each, nil, cons, Long, length-joined, length-rowsOf, joined-rowsOf, joined-append, long-rowsOf}
+use Rattle.page.specs.Each.{Each, nil, cons, Long}
+use Rattle.page.proofs.Rows.{length-joined, length-rowsOf, joined-rowsOf, joined-append, long-rowsOf}
 use Rattle.page.proofs.Turns.{rows-next}
 use Rattle.tree.specs.Answer.{between, roomFor, written, countWritten, moreRemain}
 use Rattle.tree.specs.Reader.{writeAt, countAt, moreAt, Ran}

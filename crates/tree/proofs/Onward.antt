@@ -15,7 +15,8 @@ use Rattle.field.proofs.Number.{le2-part}
 use Rattle.field.proofs.Part.{part-part}
 use Rattle.page.specs.Page.{toPage, count, rows}
 use Rattle.page.specs.Pages.{page, pages}
-use Rattle.page.proofs.Rows.{Each, nil, cons, each-append, each-at, length-rows, page-at, getD-rows}
+use Rattle.page.specs.Each.{Each, nil, cons}
+use Rattle.page.proofs.Rows.{each-append, each-at, length-rows, page-at, getD-rows}
 use Rattle.page.proofs.Pages.{getD-pages}
 use Rattle.tree.specs.Tree.{under, below, baseEntries, allRecords, wellFormed}
 use Rattle.tree.specs.Walk.{Spot, Below, Over, Above}

@@ -10,7 +10,8 @@ use borrow.Author.Tests.{leb-true}
 use Rattle.field.proofs.Test.{both-1, both-2}
 use Rattle.page.specs.Page.{root, base, leaf, rowsOf, toPage, pointing, count, rows, entries, isBase, isLeaf, isEmpty, formed}
 use Rattle.page.specs.Pages.{page, pages}
-use Rattle.page.proofs.Rows.{Each, nil, cons, each-append, each-at}
+use Rattle.page.specs.Each.{Each, nil, cons}
+use Rattle.page.proofs.Rows.{each-append, each-at}
 use Rattle.page.proofs.Made.{shaped-facts}
 use Rattle.page.proofs.Pages.{formed-page, getD-pages, lent-page, length-page}
 use Rattle.tree.specs.Tree.{under, rootEntries, below, baseEntries, pointedOnce}

@@ -18,7 +18,8 @@ use Rattle.field.proofs.Number.{le2-part, le4-part}
 use Rattle.field.proofs.Part.{getD-part}
 use Rattle.page.specs.Page.{rowsOf, keyOf, toPage, pointing, count, letter, rows}
 use Rattle.page.specs.Pages.{page, pages}
-use Rattle.page.proofs.Rows.{Each, cons, page-row, key-at}
+use Rattle.page.specs.Each.{Each, cons}
+use Rattle.page.proofs.Rows.{page-row, key-at}
 use Rattle.page.proofs.Turns.{rows-next, pointing-next}
 use Rattle.page.proofs.Pages.{getD-pages, length-pages}
 use Rattle.tree.specs.Tree.{under, below}

@@ -9,7 +9,7 @@ use lib.Dec.{eqb, leb, ltb}
 use Rattle.field.specs.Test.{both, pick}
 use Rattle.page.specs.Page.{keyOf, toPage, ascend, count, rows, isEmpty}
 use Rattle.page.specs.Pages.{page, pages, allFormed}
-use Rattle.page.proofs.Rows.{Each}
+use Rattle.page.specs.Each.{Each}
 use Rattle.tree.specs.Tree.{under, pointers}
 
 -- 64 pages in form

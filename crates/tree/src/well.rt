@@ -8,7 +8,7 @@ ghost use lib.ListN.{length, drop};
 ghost use lib.Dec.{eqb};
 ghost use Rattle.field.specs.Test.{pick};
 ghost use Rattle.page.specs.Page.{rowsOf, pointing, count, rows};
-ghost use Rattle.page.proofs.Rows.{Each};
+ghost use Rattle.page.specs.Each.{Each};
 ghost use Rattle.page.specs.Pages.{page, pages};
 ghost use Rattle.tree.specs.Tree.{below, pointedOnce, rootEntries, baseEntries, startsAtZero, headed, wellFormed};
 ghost use Rattle.tree.specs.Walk.{InForm, Ascending, Below, Above, Tallied, Roomy, bound, keysWithin, keptTo, levelTo, rightly};

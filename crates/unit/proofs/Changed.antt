@@ -20,7 +20,7 @@ use Rattle.page.proofs.Kept.{Changed, emptied-kept, appended-kept, redirected-k
 use Rattle.page.proofs.Region.{empty-formed, base-formed, leaf-formed}
 use Rattle.page.proofs.Pages.{bytes-page, bytes-putPage}
 use Rattle.log.specs.Record.{Rec, LB, LO, LI, LM, LE}
-use Rattle.log.proofs.Valid.{Moved}
+use Rattle.log.specs.Valid.{Moved}
 use Rattle.unit.specs.Next.{target, change, changedAt, apply}
 use Rattle.unit.proofs.Places.{Leafy, Basic, RecKeeps}
 

@@ -16,7 +16,8 @@ use Rattle.field.proofs.Test.{pick-true, pick-false, pick-either}
 use Rattle.field.proofs.Part.{split}
 use Rattle.page.specs.Page.{rowsOf, keyOf, toPage, count, entries, records}
 use Rattle.page.specs.Pages.{page, pages}
-use Rattle.page.proofs.Rows.{Each, each-take, length-rows, length-rowsOf, page-row}
+use Rattle.page.specs.Each.{Each}
+use Rattle.page.proofs.Rows.{each-take, length-rows, length-rowsOf, page-row}
 use Rattle.page.proofs.Turns.{rows-next}
 use Rattle.log.specs.Record.{Begin}
 use Rattle.tree.specs.Tree.{Leaf, under, pointers, leafAt, leavesUnder, leavesBelow}

@@ -17,7 +17,7 @@ use Rattle.page.proofs.Pages.{length-page, length-putPage, formed-page, formed-
 use Rattle.log.specs.Record.{Rec}
 use Rattle.log.specs.Plan.{Step}
 use Rattle.log.specs.Log.{Open, State, first, after, afterAll, Log}
-use Rattle.log.proofs.Valid.{Does, does-out, does-in, does-point, does-close, Follows, begins, goes, Fits, Valid, nil, cons, Good}
+use Rattle.log.specs.Valid.{Does, does-out, does-in, does-point, does-close, Follows, begins, goes, Fits, Valid, nil, cons, Good}
 use Rattle.log.proofs.Sound.{Sound, Waits, Awaits, waits-open, awaits-moved, sound-first, sound-after}
 use Rattle.tree.specs.Walk.{InForm}
 use Rattle.unit.specs.Next.{target, change, changedAt, apply, repeat, repeatAll}

@@ -16,7 +16,7 @@ use Rattle.log.specs.Record.{Begin, Rec, LB, LO, LI, LM, LE}
 use Rattle.log.specs.Plan.{Step, takeOut, bringIn, point, close, gather, removals, others, replacing, compactPlan, movePlan, swapPlan, plan}
 use Rattle.log.specs.Log.{Open, State, first, going, openedBy, after, afterAll, within, compactOk, swapOk, moveOk, typeOk, beginOk, Log, atEnd}
 use Rattle.log.proofs.Begin.{within-head, within-tail}
-use Rattle.log.proofs.Valid.{Does, does-out, does-in, does-point, does-close, Follows, begins, goes, Valid, nil, cons, Good}
+use Rattle.log.specs.Valid.{Does, does-out, does-in, does-point, does-close, Follows, begins, goes, Valid, nil, cons, Good}
 use Rattle.log.proofs.State.{Every}
 
 -- a leaf page, a base page

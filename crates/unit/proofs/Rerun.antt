@@ -21,7 +21,7 @@ use Rattle.log.specs.Steps.{stepOf}
 use Rattle.log.specs.Source.{recordAt}
 use Rattle.log.specs.declared.scan.Walk.{Walk}
 use Rattle.log.specs.declared.steps.Planned.{Planned}
-use Rattle.log.proofs.Valid.{Moved}
+use Rattle.log.specs.Valid.{Moved}
 use Rattle.log.proofs.Laid.{Sourced}
 use Rattle.log.proofs.Toward.{Toward, toward-first, toward-comes, toward-over, toward-ready, turned-ok, toward-turned, toward-room, toward-fits}
 use Rattle.log.proofs.Toward.{toward-rest, toward-less, Comes, topped-read, shown-opened, shown-shut, Next, toward-next, toward-source, Takes}

@@ -12,7 +12,8 @@ use Rattle.field.specs.Test.{pick, given, when}
 use Rattle.field.specs.Bytes.{le2}
 use Rattle.page.specs.Page.{rowsOf, toPage, count, rows}
 use Rattle.page.specs.Pages.{page, pages}
-use Rattle.page.proofs.Rows.{Each, nil, cons, page-row}
+use Rattle.page.specs.Each.{Each, nil, cons}
+use Rattle.page.proofs.Rows.{page-row}
 use Rattle.page.proofs.Turns.{rows-next}
 use Rattle.log.specs.Record.{Begin}
 use Rattle.tree.specs.Tree.{pointers, leavesUnder, leavesBelow, wellFormed}

@@ -11,7 +11,7 @@ ghost use Rattle.field.specs.Test.{both, pick, when};
 ghost use Rattle.field.specs.Bytes.{zeroes};
 ghost use Rattle.page.specs.Page.{rowsOf, keyOf, records};
 ghost use Rattle.page.specs.Pages.{page, pages};
-ghost use Rattle.page.proofs.Rows.{Each};
+ghost use Rattle.page.specs.Each.{Each};
 ghost use Rattle.tree.specs.Tree.{leavesUnder, wellFormed};
 ghost use Rattle.tree.specs.Walk.{InForm, Spot, Below};
 ghost use Rattle.unit.specs.Choice.{fillOf, exceeds, lowestEmpty, compactOf, larger, chooseCompact, compactUnit};

@@ -6,7 +6,7 @@ use borrow.Author.Tests.{not-true, not-false}
 use borrow.Rule.Slice.PartAt.{part-to-end}
 use Rattle.log.specs.Steps.{stepOf}
 use Rattle.log.proofs.Toward.{turned-ok}
-use Rattle.forward.specs.Appends.{nextStep}
+use Rattle.unit.specs.Again.{nextStep}
 use Rattle.forward.proofs.Stands.{begin-room, begin-ok, step-read}
 use Rattle.stepping.proofs.Steps.{step-no-work, step-no-log, step-no-form, step-no-unit, Past, past-opened, past-stands, past-target}
 use Rattle.stepping.proofs.Steps.{step-no-page, Stepped, went-on, end-is, step-stops, step-steps}

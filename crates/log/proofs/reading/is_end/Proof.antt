@@ -6,7 +6,7 @@ use mathlib.Core.Path.{_∙_}
 use Rattle.log.specs.Record.{lengthOf}
 use Rattle.log.specs.Table.{kinds, kindAt}
 use Rattle.log.proofs.Stand.{stand-short, stand-rest!, end-long}
-use Rattle.page.proofs.Rows.{Each}
+use Rattle.page.specs.Each.{Each}
 use Rattle.log.specs.Record.{LE, carried}
 use borrow.Author.Needs.{needs}
 use Rattle.log.proofs.reading.is_end.Statement.{statement}

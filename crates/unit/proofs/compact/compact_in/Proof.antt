@@ -3,7 +3,7 @@ use Prim.Native.Nat.{_≤_, _<_, _+_, _-_, _*_}
 use lib.ListN.{length, drop}
 use Rattle.field.specs.Test.{when}
 use Rattle.page.specs.Page.{rowsOf}
-use Rattle.page.proofs.Rows.{Each}
+use Rattle.page.specs.Each.{Each}
 use Rattle.tree.specs.Walk.{Spot, Below}
 use Rattle.tree.proofs.Turn.{spot-here, each-behind}
 use Rattle.unit.proofs.Chooses.{Yet, yet-all, yet-end!, yet-stop!, yet-more!, each-seven, seven-small, larger-small}

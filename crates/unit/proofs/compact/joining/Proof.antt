@@ -4,7 +4,7 @@ use mathlib.Core.Path.{_≡_}
 use lib.ListN.{length, drop}
 use Rattle.page.specs.Page.{rowsOf}
 use Rattle.page.specs.Pages.{pages}
-use Rattle.page.proofs.Rows.{Each}
+use Rattle.page.specs.Each.{Each}
 use Rattle.tree.specs.Walk.{Spot, Below}
 use Rattle.tree.proofs.Turn.{spot-here, each-behind}
 use Rattle.unit.specs.Chosen.{joins}

@@ -7,7 +7,7 @@ use Rattle.forward.proofs.recovering.RecoverAnswer as A
 use Rattle.forward.proofs.recovering.RecoverAnswer.Laws as A′
 use Rattle.forward.proofs.recovering.Recovered as X
 use Rattle.forward.proofs.recovering.Recovered.Laws as X′
-use Rattle.lent.proofs.OfRecovered.{ofRecovered}
+use Rattle.uhtlight.proofs.OfRecovered.{ofRecovered}
 use Rattle.handed.proofs.Lending.{Made}
 
 abbrev pub byRecovered : Made ofRecovered

@@ -26,7 +26,7 @@ pub fn build(
         ≡ build f g (lent (n .used) (n .forced) (now (work .entry)) (now (store .entry)) (now (log .entry)) (now (records .entry))) ⌝ }
 {
     let mut m = n;
-    let reply = lent::uhtlight_build(&mut m, work, store, log, records, f, g);
+    let reply = uhtlight::uhtlight_build(&mut m, work, store, log, records, f, g);
     let numbers = m;
     Answer { reply, numbers }
 }
@@ -37,7 +37,7 @@ pub fn recover(n: Numbers, work: &mut [u8], store: &[u8], log: &mut [u8]) -> Rec
         ≡ recover (lent (n .used) (n .forced) (now (work .entry)) (now (store .entry)) (now (log .entry)) []) ⌝ }
 {
     let mut m = n;
-    let recovered = lent::uhtlight_recover(&mut m, work, store, log);
+    let recovered = uhtlight::uhtlight_recover(&mut m, work, store, log);
     let numbers = m;
     RecoverAnswer { recovered, numbers }
 }
@@ -48,7 +48,7 @@ pub fn begin_compact(n: Numbers, work: &[u8], log: &mut [u8], fill: u32) -> Answ
         ≡ beginCompact fill (lent (n .used) (n .forced) (now (work .entry)) [] (now (log .entry)) []) ⌝ }
 {
     let mut m = n;
-    let reply = lent::uhtlight_begin_compact(&mut m, work, log, fill);
+    let reply = uhtlight::uhtlight_begin_compact(&mut m, work, log, fill);
     let numbers = m;
     Answer { reply, numbers }
 }
@@ -59,7 +59,7 @@ pub fn begin_order(n: Numbers, work: &[u8], log: &mut [u8]) -> Answer
         ≡ beginOrder (lent (n .used) (n .forced) (now (work .entry)) [] (now (log .entry)) []) ⌝ }
 {
     let mut m = n;
-    let reply = lent::uhtlight_begin_order(&mut m, work, log);
+    let reply = uhtlight::uhtlight_begin_order(&mut m, work, log);
     let numbers = m;
     Answer { reply, numbers }
 }
@@ -70,7 +70,7 @@ pub fn step(n: Numbers, work: &mut [u8], log: &mut [u8]) -> Answer
         ≡ step (lent (n .used) (n .forced) (now (work .entry)) [] (now (log .entry)) []) ⌝ }
 {
     let mut m = n;
-    let reply = lent::uhtlight_step(&mut m, work, log);
+    let reply = uhtlight::uhtlight_step(&mut m, work, log);
     let numbers = m;
     Answer { reply, numbers }
 }
@@ -81,7 +81,7 @@ pub fn flush(n: Numbers, work: &[u8], store: &mut [u8], log: &[u8], p: PageNo) -
         ≡ flush (p .0) (lent (n .used) (n .forced) (now (work .entry)) (now (store .entry)) (now (log .entry)) []) ⌝ }
 {
     let mut m = n;
-    let reply = lent::uhtlight_flush(&mut m, work, store, log, p);
+    let reply = uhtlight::uhtlight_flush(&mut m, work, store, log, p);
     let numbers = m;
     Answer { reply, numbers }
 }
@@ -92,7 +92,7 @@ pub fn force(n: Numbers, log: &[u8]) -> Answer
         ≡ force (lent (n .used) (n .forced) [] [] (now (log .entry)) []) ⌝ }
 {
     let mut m = n;
-    let reply = lent::uhtlight_force(&mut m, log);
+    let reply = uhtlight::uhtlight_force(&mut m, log);
     let numbers = m;
     Answer { reply, numbers }
 }
@@ -103,7 +103,7 @@ pub fn checkpoint(n: Numbers, work: &[u8], store: &[u8], log: &mut [u8], clear: 
         ≡ checkpoint clear (lent (n .used) (n .forced) (now (work .entry)) (now (store .entry)) (now (log .entry)) []) ⌝ }
 {
     let mut m = n;
-    let reply = lent::uhtlight_checkpoint(&mut m, work, store, log, clear);
+    let reply = uhtlight::uhtlight_checkpoint(&mut m, work, store, log, clear);
     let numbers = m;
     Answer { reply, numbers }
 }
@@ -114,7 +114,7 @@ pub fn find(n: Numbers, work: &[u8], log: &[u8], key: u32) -> FindAnswer
         ≡ find key (lent (n .used) (n .forced) (now (work .entry)) [] (now (log .entry)) []) ⌝ }
 {
     let mut m = n;
-    let found = lent::uhtlight_find(&mut m, work, log, key);
+    let found = uhtlight::uhtlight_find(&mut m, work, log, key);
     let numbers = m;
     FindAnswer { found, numbers }
 }
@@ -125,7 +125,7 @@ pub fn list(n: Numbers, work: &[u8], log: &[u8], low: u32, high: u32, out: &mut 
         ≡ list low high (lent (n .used) (n .forced) (now (work .entry)) [] (now (log .entry)) (now (out .entry))) ⌝ }
 {
     let mut m = n;
-    let listed = lent::uhtlight_list(&mut m, work, log, low, high, out);
+    let listed = uhtlight::uhtlight_list(&mut m, work, log, low, high, out);
     let numbers = m;
     ListAnswer { listed, numbers }
 }

@@ -9,7 +9,7 @@ use denote.Steps.{only}
 use denote.Struct.Laws as SL
 use Rattle.store.proofs.known.Answer as A
 use Rattle.store.proofs.known.Answer.Laws as A′
-use Rattle.lent.proofs.Outer.{Answered}
+use Rattle.uhtlight.proofs.Outer.{Answered}
 
 abbrev pub ofReply : Answered
 ofReply = record {

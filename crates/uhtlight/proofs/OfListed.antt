@@ -7,7 +7,7 @@ use Rattle.store.proofs.listing.ListAnswer as A
 use Rattle.store.proofs.listing.ListAnswer.Laws as A′
 use Rattle.store.proofs.listing.Listed as X
 use Rattle.store.proofs.listing.Listed.Laws as X′
-use Rattle.lent.proofs.Outer.{Answered}
+use Rattle.uhtlight.proofs.Outer.{Answered}
 
 abbrev pub ofListed : Answered
 ofListed = record {

@@ -63,5 +63,5 @@ unfolding code.routine
 build-spec 𝓤 H 𝓜 𝓖 𝓡 =
     met-over 𝓤 H 𝓜 𝓖 𝓡 f.signature (f.spec 𝓤 H (𝓖 .A) (𝓜 .mem) (𝓡 .run)) code.env key.name code.function (code.unfolded 𝓤 H 𝓜 𝓡) spelled
     (λ κs. (SL.tells N.the-type N′.the-laws, (mut-slice-tells (named 0) (κs .0) u8, (mut-slice-tells (named 1) (κs .1 .0) u8, (mut-slice-tells (named 2) (κs .1 .1 .0) u8, (shr-slice-tells (named 3) (κs .1 .1 .1 .0) u8, (uint-tells w32, (uint-tells w32, tt))))))))
-    callee-def.name callee-def.routine code.calls-lent·uhtlight-build callee.signature (callee.spec 𝓤 H (𝓖 .A) (𝓜 .mem) (𝓡 .run)) (callee-thm.met 𝓤 H 𝓜 𝓖 𝓡)
+    callee-def.name callee-def.routine code.calls-uhtlight·uhtlight-build callee.signature (callee.spec 𝓤 H (𝓖 .A) (𝓜 .mem) (𝓡 .run)) (callee-thm.met 𝓤 H 𝓜 𝓖 𝓡)
     (walk 𝓤 H (𝓖 .A) (givenOf 𝓤 H 𝓜 𝓖) (𝓜 .mem) (𝓡 .run))

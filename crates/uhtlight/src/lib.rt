@@ -1,15 +1,20 @@
 // The public calls as document 01 has them: bytes used and bytes forced are one small record that each call is lent and updates. A call hands
-// its core in `store` a copy of that record, puts what comes back in its place and returns the rest; so its contract is the core's, with the
-// record at entry and at exit for the numbers. These are also the names that C has.
+// its core in `store` or `forward` a copy of that record, puts what comes back in its place and returns the rest; so its contract is the core's,
+// with the record at entry and at exit for the numbers. Beside them stand the range reader's two, lent the work pages alone. These are also the
+// names that C has.
 ghost use mathlib.Core.Path.{_≡_};
 ghost use mathlib.Core.List.{[], _∷_};
 ghost use Rattle.field.specs.Test.{pick};
+ghost use Rattle.range.specs.Reading.{startFrom, nextFrom};
 ghost use Rattle.store.specs.Calls.{lent, left, build, recover, beginCompact, beginOrder, step, flush, force, checkpoint, find, list};
 use field::PageNo;
 use forward::Recovered;
+use range::steps::Reached;
+use range::steps::Step;
 use store::Listed;
 use store::Numbers;
 use tree::find::Found;
+use tree::walk::Place;
 
 // A tree of these records, in work and store alike, and a new log.
 #[no_mangle]
@@ -156,4 +161,20 @@ pub extern "C" fn uhtlight_list(
     let a = store::list(*n, work, log, low, high, out);
     *n = a.numbers;
     a.listed
+}
+
+// Where the range reader starts that is to give the records from this key on.
+#[no_mangle]
+pub extern "C" fn uhtlight_range_start(work: &[u8], key: u32) -> Reached
+    ensures started { λ r. ⌜ r ≡ startFrom (now (work .entry)) key ⌝ }
+{
+    range::start_from(work, key)
+}
+
+// The record at a position of the range reader, and the position after it. The caller keeps the position and lends the same pages again.
+#[no_mangle]
+pub extern "C" fn uhtlight_range_next(work: &[u8], at: Place) -> Step
+    ensures found { λ r. ⌜ r ≡ nextFrom (now (work .entry)) at ⌝ }
+{
+    range::next_from(work, at)
 }

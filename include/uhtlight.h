@@ -48,9 +48,10 @@
  *
  *   a unit             26 records, its begin and 25 steps, and 876 bytes of the log: 8 leaves with 15 records packed into a new place
  *   recovery           25 records appended
- *   stack, in bytes    STACKTABLE
+ *   stack, in bytes    build 1,152; recover 1,024; begin, step and list 768; range_next 256; the others 512
  *
- * The stack is measured (tests/stack.c) on x86-64: what a call takes below its caller's frame, return address and arguments on the stack among it.
+ * The stack is what a call takes with its arguments, its answer and the return address. It is measured on x86-64 by tests/stack.c, which fails
+ * where a call takes more; docs/PERFORMANCE.md has the figures.
  */
 #ifndef UHTLIGHT_H
 #define UHTLIGHT_H

@@ -90,7 +90,8 @@ static void try_wild(size_t bytes)
     bool ok = nothing(&r);
     if (r.found) {
         given++;
-        ok = bytes == sizeof now.work && at.leaf < UHTLIGHT_PAGES && at.row < LEAF_FILL && is(&r, now.work + UHTLIGHT_PAGE * at.leaf + 16 + UHTLIGHT_RECORD * at.row);
+        ok = bytes == sizeof now.work && at.leaf < UHTLIGHT_PAGES && at.row < LEAF_FILL
+            && is(&r, now.work + UHTLIGHT_PAGE * at.leaf + 16 + UHTLIGHT_RECORD * at.row);
     }
     check(ok, "a position that was made up", at.leaf);
 }

@@ -52,12 +52,14 @@ head-key w s i b h e small =
 
 -- ---- the way down
 
-root-down : (key : ℕ) (w : List ℕ) (o : ℕ) → 0 < o → let b : ℕ = entryTo 0 (o - 1) w in belowRoot key w o ≡ belowBase key w o b (rowsBelow (key + 1) (rows 8 (page b w)))
+root-down : (key : ℕ) (w : List ℕ) (o : ℕ) → 0 < o → let b : ℕ = entryTo 0 (o - 1) w in
+    belowRoot key w o ≡ belowBase key w o b (rowsBelow (key + 1) (rows 8 (page b w)))
 unfolding belowRoot
 root-down key w zero h = absurd (not-suc-le-zero h)
 root-down key w (suc o) h = let e : suc o - 1 ≡ o = omega arith in rw e
 
-base-down : (key : ℕ) (w : List ℕ) (o b i : ℕ) → 0 < i → let p : ℕ = entryTo b (i - 1) w in belowBase key w o b i ≡ settled (place o b i p (rowsBelow key (rows 16 (page p w)))) w
+base-down : (key : ℕ) (w : List ℕ) (o b i : ℕ) → 0 < i → let p : ℕ = entryTo b (i - 1) w in
+    belowBase key w o b i ≡ settled (place o b i p (rowsBelow key (rows 16 (page p w)))) w
 unfolding belowBase
 base-down key w o b zero h = absurd (not-suc-le-zero h)
 base-down key w o b (suc i) h = let e : suc i - 1 ≡ i = omega arith in rw e

@@ -151,7 +151,8 @@ uint8_t uhtlight_begin_compact(struct uhtlight_numbers *numbers, const uint8_t *
 /* Begins a unit that puts a leaf where it belongs in key order. Replies 0, LENGTH, LOG, OPEN, FORM, TREE, NOTHING, ROOM, NUMBER. */
 uint8_t uhtlight_begin_order(struct uhtlight_numbers *numbers, const uint8_t *work, size_t work_bytes, uint8_t *log, size_t log_bytes);
 
-/* The open unit's next step: one record, and one page changed or, at the unit's end, none. Replies 0, LENGTH, LOG, CLOSED, FORM, MISFIT, ROOM, NUMBER. */
+/* The open unit's next step: one record, and one page changed or, at the unit's end, none.
+ * Replies 0, LENGTH, LOG, CLOSED, FORM, MISFIT, ROOM, NUMBER. */
 uint8_t uhtlight_step(struct uhtlight_numbers *numbers, uint8_t *work, size_t work_bytes, uint8_t *log, size_t log_bytes);
 
 /* Copies one work page to the store. Replies 0, LENGTH, LOG, RANGE, UNFORCED. */
@@ -175,15 +176,16 @@ struct uhtlight_found uhtlight_find(struct uhtlight_numbers *numbers, const uint
 struct uhtlight_listed uhtlight_list(struct uhtlight_numbers *numbers, const uint8_t *work, size_t work_bytes, const uint8_t *log, size_t log_bytes,
     uint32_t low, uint32_t high, uint8_t *room, size_t room_bytes);
 
-/* The range reader: records one after the other in key order, with no room for them all. It is lent the work pages alone, so it does not know
- * whether a unit is open; in the midst of one the pages may be no tree.
+/* The range reader gives records one after the other in key order, with no room for them all. It is lent the work pages alone, so it does not
+ * know whether a unit is open; in the midst of one the pages may be no tree.
  *
  *   struct uhtlight_reached start = uhtlight_range_start(work, sizeof work, 1000);
  *   struct uhtlight_read r = uhtlight_range_next(work, sizeof work, start.at);
  *   for (; r.found && r.key <= 2000; r = uhtlight_range_next(work, sizeof work, r.next))
  *       show(r.key, r.value);
- *
- * Where the first record stands whose key is at least this one. Replies 0, LENGTH, FORM, TREE; a refused reader's position gives no record. */
+ */
+
+/* Where the first record stands whose key is at least this one. Replies 0, LENGTH, FORM, TREE; a refused reader's position gives no record. */
 struct uhtlight_reached uhtlight_range_start(const uint8_t *work, size_t work_bytes, uint32_t key);
 
 /* The record at a position, and the position after it. Lend the pages as they were at the start: on others, or with a position that was made

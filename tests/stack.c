@@ -188,9 +188,10 @@ static void tidy(int begin)
 static size_t falling(size_t leaf) { return FIRST_LEAF + LEAVES - 1 - leaf; }
 static size_t behind(size_t leaf) { return UHTLIGHT_PAGES - 1 - 3 * leaf; }
 
-/* A whole tidying of so many records, leaf_fill to a leaf, from a tree that is scattered. */
-static void whole(uint32_t count, uint32_t leaf_fill, size_t (*place)(size_t leaf), uint32_t packed)
+/* A whole tidying of so many records, leaf_fill to a leaf, from a tree that is scattered; its longest unit has so many records and log bytes. */
+static void whole(uint32_t count, uint32_t leaf_fill, size_t (*place)(size_t leaf), uint32_t packed, uint32_t unit_records, uint32_t unit_bytes)
 {
+    most_records = most_bytes = 0;
     bytes_lent = UHTLIGHT_RECORD * (size_t)count;
     fill = leaf_fill;
     check(make(BUILD) == UHTLIGHT_DONE, "build refused", count);
@@ -201,21 +202,23 @@ static void whole(uint32_t count, uint32_t leaf_fill, size_t (*place)(size_t lea
     tidy(BEGIN_COMPACT);
     tidy(BEGIN_ORDER);
     settle();
+    printf("%u records, %u to a leaf: the longest unit has %u records, %u bytes\n", count, leaf_fill, most_records, most_bytes);
+    check(most_records == unit_records, "records of the longest unit", most_records);
+    check(most_bytes == unit_bytes, "log bytes of the longest unit", most_bytes);
 }
 
 int main(void)
 {
     make_records(records, RECORDS, APART);
-    whole(0, 1, falling, 0);
-    whole(LEAVES, 1, falling, FULL);
-    whole(LEAVES * 4, 4, falling, 0);
-    whole(RECORDS, FULL, falling, 0);
-    most_records = most_bytes = 0;
-    /* 8 leaves with 15 records, each on a page of its own behind empty ones: packed into a new place, the largest unit that there is */
-    whole(FULL, 2, behind, FULL);
-    check(most_records == 26, "records of the largest unit", most_records);
-    check(most_bytes == 876, "log bytes of the largest unit", most_bytes);
-    /* refusals: build's records, and lengths */
+    whole(0, 1, falling, 0, 0, 0);
+    whole(LEAVES, 1, falling, FULL, 23, 676);
+    whole(LEAVES * 4, 4, falling, 0, 8, 588);
+    /* full leaves: swaps of two, and a move of one */
+    whole(RECORDS, FULL, falling, 0, 8, 684);
+    whole(FULL, FULL, behind, 0, 5, 372);
+    /* 8 leaves with 15 records, behind empty pages: packed into a new place, the largest unit that there is */
+    whole(FULL, 2, behind, FULL, 26, 876);
+    /* refusals of build and of recovery */
     records[UHTLIGHT_RECORD] = 0;
     check(make(BUILD) == UHTLIGHT_RECORD_BAD, "not refused", reply);
     bytes_lent = 1;
@@ -226,7 +229,6 @@ int main(void)
         check(calls[which].most <= calls[which].stated, calls[which].name, calls[which].most);
         printf("%-13s %4zu bytes, at most %4zu, in %lu calls\n", calls[which].name, calls[which].most, calls[which].stated, calls[which].times);
     }
-    printf("the largest unit: %u records, %u bytes\n", most_records, most_bytes);
     printf("%lu passed, %lu failed\n", passed, failed);
     return failed != 0;
 }

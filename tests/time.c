@@ -21,7 +21,7 @@ int atoi(const char *text);
 void exit(int status);
 void *memcpy(void *to, const void *from, size_t count);
 
-enum { RECORDS = UHTLIGHT_RECORDS, APART = 10, LEAVES = 56, LEAF_FILL = 15, BASE_FILL = 30, THIN = 5, KEYS = 1024, ROUNDS = 80 };
+enum { RECORDS = UHTLIGHT_RECORDS, APART = 10, LEAVES = 56, LEAF_FILL = 15, BASE_FILL = 30, THIN = 5, ROUNDS = 80 };
 
 static struct state ordered;  /* 840 records in key order on the chip, the log short */
 static struct state falling;  /* the same in falling order */
@@ -30,7 +30,7 @@ static struct state thin;     /* 56 leaves of five records */
 static struct state begun;    /* falling, with a unit begun */
 static struct state scratch;  /* what a call may change, put back after it */
 static uint8_t records[RECORDS * UHTLIGHT_RECORD], room[RECORDS * UHTLIGHT_RECORD];
-static uint32_t in_a_row[KEYS], at_random[KEYS], one_key[KEYS];
+static uint32_t in_a_row[RECORDS], at_random[RECORDS], one_key[RECORDS];
 static size_t stepped; /* where the page stands that begun's next step changes */
 static volatile uint8_t sink;
 
@@ -81,7 +81,7 @@ static void zero(unsigned i)
     sink = gathered(ordered.log + 24, 8168);
 }
 
-static void search(unsigned i) { sink = searched(ordered.work, at_random[i % KEYS]); }
+static void search(unsigned i) { sink = searched(ordered.work, at_random[i % RECORDS]); }
 
 static void copied(unsigned i)
 {
@@ -96,10 +96,10 @@ static void find(struct state *s, uint32_t key)
     sink = uhtlight_find(&s->numbers, s->work, sizeof s->work, s->log, sizeof s->log, key).reply;
 }
 
-static void find_one(unsigned i) { find(&ordered, one_key[i % KEYS]); }
-static void find_row(unsigned i) { find(&ordered, in_a_row[i % KEYS]); }
-static void find_random(unsigned i) { find(&ordered, at_random[i % KEYS]); }
-static void find_logged(unsigned i) { find(&logged, at_random[i % KEYS]); }
+static void find_one(unsigned i) { find(&ordered, one_key[i % RECORDS]); }
+static void find_row(unsigned i) { find(&ordered, in_a_row[i % RECORDS]); }
+static void find_random(unsigned i) { find(&ordered, at_random[i % RECORDS]); }
+static void find_logged(unsigned i) { find(&logged, at_random[i % RECORDS]); }
 
 static void list(unsigned i)
 {
@@ -190,10 +190,10 @@ static struct timed cases[] = {
     {"copy", copied, 500, {-1, -1}, -1, 0},
     {"begin_back", begin_back, 5000, {-1, -1}, -1, 0},
     {"step_back", step_back, 5000, {-1, -1}, -1, 0},
-    {"find_one", find_one, 1024, {ZERO, SEARCH}, -1, 0},
-    {"find_row", find_row, 1024, {ZERO, SEARCH}, -1, 0},
-    {"find_random", find_random, 1024, {ZERO, SEARCH}, -1, 0},
-    {"find_logged", find_logged, 1024, {ZERO, SEARCH}, -1, 0},
+    {"find_one", find_one, RECORDS, {ZERO, SEARCH}, -1, 0},
+    {"find_row", find_row, RECORDS, {ZERO, SEARCH}, -1, 0},
+    {"find_random", find_random, RECORDS, {ZERO, SEARCH}, -1, 0},
+    {"find_logged", find_logged, RECORDS, {ZERO, SEARCH}, -1, 0},
     {"list", list, 200, {ZERO, COPY}, -1, 0},
     {"recover_short", recover_short, 200, {ZERO, COPY}, -1, 0},
     {"recover_full", recover_full, 100, {ZERO, COPY}, -1, 0},
@@ -267,10 +267,10 @@ static void make_states(void)
         stepped += UHTLIGHT_PAGE;
     expect(build(&thin, records, UHTLIGHT_RECORD * THIN * LEAVES, THIN, BASE_FILL) == UHTLIGHT_DONE, "build refused");
     uint32_t drawn = 1;
-    for (unsigned i = 0; i < KEYS; i++) {
+    for (unsigned i = 0; i < RECORDS; i++) {
         drawn = 1664525 * drawn + 1013904223;
         one_key[i] = APART * (RECORDS / 2 - 1);
-        in_a_row[i] = APART * (i % RECORDS);
+        in_a_row[i] = APART * i;
         at_random[i] = APART * ((drawn >> 8) % RECORDS);
     }
 }

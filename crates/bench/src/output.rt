@@ -1,10 +1,10 @@
 // Writing what a command left, and the state after it.
 use crate::state;
 use crate::state::State;
-use forward::RecoverAnswer;
+use answering::FindAnswer;
+use answering::ListAnswer;
+use recovering::RecoverAnswer;
 use store::Answer;
-use store::FindAnswer;
-use store::ListAnswer;
 
 // A command that is unknown, cut short or out of its limits: writes 255 and ends the script.
 pub fn bad(at: State) -> State {

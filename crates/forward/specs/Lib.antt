@@ -1,3 +1,2 @@
--- One step of an open unit, and recovery's finishing, as the code makes them.
+-- One step of an open unit, as the code makes it.
 pub mod Appends
-pub mod Finishes

@@ -3,8 +3,8 @@
 use mathlib.Core.Path.{ap}
 use denote.Steps.{only}
 use denote.Struct.Laws as SL
-use Rattle.store.proofs.looking.FindAnswer as A
-use Rattle.store.proofs.looking.FindAnswer.Laws as A′
+use Rattle.answering.proofs.looking.FindAnswer as A
+use Rattle.answering.proofs.looking.FindAnswer.Laws as A′
 use Rattle.tree.proofs.find.Found as X
 use Rattle.tree.proofs.find.Found.Laws as X′
 use Rattle.uhtlight.proofs.OfFound.{ofFound}

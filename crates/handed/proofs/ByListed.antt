@@ -3,10 +3,10 @@
 use mathlib.Core.Path.{ap}
 use denote.Steps.{only}
 use denote.Struct.Laws as SL
-use Rattle.store.proofs.listing.ListAnswer as A
-use Rattle.store.proofs.listing.ListAnswer.Laws as A′
-use Rattle.store.proofs.listing.Listed as X
-use Rattle.store.proofs.listing.Listed.Laws as X′
+use Rattle.answering.proofs.listing.ListAnswer as A
+use Rattle.answering.proofs.listing.ListAnswer.Laws as A′
+use Rattle.answering.proofs.listing.Listed as X
+use Rattle.answering.proofs.listing.Listed.Laws as X′
 use Rattle.uhtlight.proofs.OfListed.{ofListed}
 use Rattle.handed.proofs.Lending.{Made}
 

@@ -5,11 +5,11 @@ ghost use mathlib.Core.Path.{_≡_};
 ghost use mathlib.Core.List.{[], _∷_};
 ghost use Rattle.field.specs.Test.{pick};
 ghost use Rattle.store.specs.Calls.{lent, left, build, recover, beginCompact, beginOrder, step, flush, force, checkpoint, find, list};
+use answering::FindAnswer;
+use answering::ListAnswer;
 use field::PageNo;
-use forward::RecoverAnswer;
+use recovering::RecoverAnswer;
 use store::Answer;
-use store::FindAnswer;
-use store::ListAnswer;
 use store::Numbers;
 
 // A tree of these records, in work and store alike, and a new log.

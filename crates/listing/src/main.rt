@@ -8,7 +8,7 @@ use store::Numbers;
 // Recovers into the work pages and prints.
 fn list(work: &mut [u8], store: &[u8], log: &mut [u8]) {
     let numbers = Numbers { used: 0, forced: 0 };
-    let answer = forward::recover(numbers, work, store, log);
+    let answer = recovering::recover(numbers, work, store, log);
     let recovered = answer.recovered;
     if recovered.reply != 0 {
         text::refused(recovered.reply);

@@ -18,7 +18,8 @@ use Rattle.field.proofs.Byte.{bytes-drop, bytes-part, bytes-put, bytes-bytes2}
 use Rattle.page.specs.Page.{Kind, base, leaf, empty, joined, ascend, ascendRecords, pointing, count, number, spare, rows, entries, records, made, shaped, isBase, isLeaf, isEmpty}
 use Rattle.page.specs.Change.{above, emptied, appended, has, pointTo, without, redirected, removed}
 use Rattle.page.proofs.Rows.{Each, nil, Long, each-append, bytes-rowsOf}
-use Rattle.page.proofs.Order.{ascend-append, Found, has-found, without-at, each-without, ascend-without, pointing-without, length-pointTo, each-pointTo, long-pointed, ascend-pointTo, pointing-pointTo}
+use Rattle.page.proofs.Order.{ascend-append, Found, has-found, without-at, each-without, ascend-without, pointing-without}
+use Rattle.page.proofs.Order.{length-pointTo, each-pointTo, long-pointed, ascend-pointTo, pointing-pointTo}
 use Rattle.page.proofs.Written.{body, body-of}
 use Rattle.page.proofs.Region.{fill-of, base-shaped, base-pointing}
 use Rattle.page.proofs.Made.{Shaped, shaped-facts, Fit, fit-base, fit-leaf, fit-empty, Fill, shaped-made, rows-made, spare-made, number-made, length-made, bytes-made, room-joined}

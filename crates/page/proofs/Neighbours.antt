@@ -1,5 +1,5 @@
--- Loops over rows that look at a row and the one behind it: records, whose marks and keys are tested one after the other, and entries, where
--- the page of one and the mark of the next are one number. Each way through them has its law. Assumes nothing.
+-- Loops over rows that look at a row and the one behind it. What they rest on is said once over the size and the mark of a row; records have their
+-- marks and keys tested one after the other, and of entries the page of one and the mark of the next are one number. Assumes nothing.
 use Prim.Native.Nat.{ℕ, _+_, _-_, _*_, _≤_, _<_}
 use native.Mathlib.Omega.{arith}
 use mathlib.Core.Path.{_≡_, refl, sym, ap, ap₂, _∙_}
@@ -39,70 +39,96 @@ module _ (l : List ℕ) (at a b : ℕ) where
       let x₀ : getD l at 0 < 256 = y at in
       both-true _ _ (eq-eqb (getD l at 0) a (omega arith)) ∙ both-true _ _ (eq-eqb (getD l (at + 1) 0) b (omega arith))
 
--- ---- records
+-- ---- rows of any size with the mark a b
 
--- the k - i records behind the i-th ascend from its key on
-unfoldable pub behind : (l : List ℕ) (start k i : ℕ) → Bool
-behind l start k i = ascend 114 99 (le4 l (start + 16 * i + 2) + 1) (rowsOf 16 (k - i) (drop (start + 16 * i + 16) l))
+-- the k rows behind the row at an offset ascend from its key on
+unfoldable pub behind : (sz a b : ℕ) (l : List ℕ) (at k : ℕ) → Bool
+behind sz a b l at k = ascend a b (le4 l (at + 2) + 1) (rowsOf sz k (drop (at + sz) l))
+
+module _ (sz a b : ℕ) (wide : 8 ≤ sz) (small : a < 256) (l : List ℕ) (at : ℕ) where
+  rows-none : (n lo : ℕ) → n ≤ 0 → ascend a b lo (rowsOf sz n (drop at l)) ≡ true
+  rows-none n lo h = rw (no-rows sz n (drop at l) h) (unfold ascend in refl)
+
+  behind-none : (k : ℕ) → k ≤ 0 → behind sz a b l at k ≡ true
+  unfolding behind
+  behind-none k h = rw (no-rows sz k (drop (at + sz) l) h) (unfold ascend in refl)
+
+  -- the first of n rows: its mark, then those behind it
+  module _ (n : ℕ) (some : 0 < n) where
+    front : ascend a b 0 (rowsOf sz n (drop at l)) ≡ both (eqb (getD l at 0) a) (both (eqb (getD l (at + 1) 0) b) (behind sz a b l at (n - 1)))
+    unfolding behind
+    front =
+        let t : both (leb 0 (le4 l (at + 2))) (behind sz a b l at (n - 1)) ≡ behind sz a b l at (n - 1) =
+        both-true _ _ (le-leb 0 (le4 l (at + 2)) (omega arith)) in
+        ascend-next sz a b n 0 at l some wide ∙ ap (λ (r : Bool). both (eqb (getD l at 0) a) (both (eqb (getD l (at + 1) 0) b) r)) t
+
+    front-bad : (le2 l at ≡ a + 256 * b → ⊥) → ascend a b 0 (rowsOf sz n (drop at l)) ≡ false
+    front-bad f = front ∙ unmarked l at a b f _
+
+    front-good : Bytes l → le2 l at ≡ a + 256 * b → ascend a b 0 (rowsOf sz n (drop at l)) ≡ behind sz a b l at (n - 1)
+    front-good y f = front ∙ marked l at a b y small f _
+
+  -- the row behind: its mark, the two keys, then those behind it
+  module _ (k : ℕ) (some : 0 < k) where
+    behind-next : behind sz a b l at k
+        ≡ both (eqb (getD l (at + sz) 0) a) (both (eqb (getD l (at + sz + 1) 0) b)
+        (both (leb (le4 l (at + 2) + 1) (le4 l (at + sz + 2))) (behind sz a b l (at + sz) (k - 1))))
+    unfolding behind
+    behind-next = ascend-next sz a b k (le4 l (at + 2) + 1) (at + sz) l some wide
+
+    behind-bad : (le2 l (at + sz) ≡ a + 256 * b → ⊥) → behind sz a b l at k ≡ false
+    behind-bad f = behind-next ∙ unmarked l (at + sz) a b f _
+
+    behind-good : Bytes l → le2 l (at + sz) ≡ a + 256 * b
+        → behind sz a b l at k ≡ both (leb (le4 l (at + 2) + 1) (le4 l (at + sz + 2))) (behind sz a b l (at + sz) (k - 1))
+    behind-good y f = behind-next ∙ marked l (at + sz) a b y small f _
+
+some-rows : (n : ℕ) → (n ≡ 0 → ⊥) → 0 < n
+some-rows n f = split 0 n (λ g. g) (λ g. absurd (f (omega arith)))
+
+-- ---- records
 
 module _ (l : List ℕ) (start n : ℕ) where
   pub record-none! : n ≡ 0 → true ≡ ascend 114 99 0 (rowsOf 16 n (drop start l))
-  record-none! e = let h : n ≤ 0 = omega arith in rw (no-rows 16 n (drop start l) h) (unfold ascend in refl)
+  record-none! e = sym (rows-none 16 114 99 (omega arith) (omega arith) l start n 0 (omega arith))
 
   module _ (some : n ≡ 0 → ⊥) (m : ℕ) (q : m ≡ le2 l start) where
-    first : ascend 114 99 0 (rowsOf 16 n (drop start l))
-        ≡ both (eqb (getD l start 0) 114) (both (eqb (getD l (start + 1) 0) 99)
-        (both (leb 0 (le4 l (start + 2))) (ascend 114 99 (le4 l (start + 2) + 1) (rowsOf 16 (n - 1) (drop (start + 16) l)))))
-    first = let h : 0 < n = split 0 n (λ g. g) (λ g. absurd (some (omega arith))) in ascend-next 16 114 99 n 0 start l h (omega arith)
-
     pub record-bad! : (m ≡ 25458 → ⊥) → false ≡ ascend 114 99 0 (rowsOf 16 n (drop start l))
-    record-bad! f = sym (first ∙ unmarked l start 114 99 (λ e. f (q ∙ e)) _)
+    record-bad! f = sym (front-bad 16 114 99 (omega arith) (omega arith) l start n (some-rows n some) (λ e. f (q ∙ e)))
 
-    pub record-first : Bytes l → m ≡ 25458 → ascend 114 99 0 (rowsOf 16 n (drop start l)) ≡ behind l start (n - 1) 0
-    unfolding behind
+    pub record-first : Bytes l → m ≡ 25458 → ascend 114 99 0 (rowsOf 16 n (drop start l)) ≡ behind 16 114 99 l (start + 16 * 0) (n - 1 - 0)
     record-first y f =
         let o : start + 16 * 0 ≡ start = omega arith in
         let d : n - 1 - 0 ≡ n - 1 = omega arith in
-        first ∙ marked l start 114 99 y (omega arith) (sym q ∙ f) _ ∙ both-true _ _ (le-leb 0 (le4 l (start + 2)) (omega arith)) ∙ rw (o, d)
+        rw (o, d) (front-good 16 114 99 (omega arith) (omega arith) l start n (some-rows n some) y (sym q ∙ f))
 
-  module _ (i : ℕ) (e : ascend 114 99 0 (rowsOf 16 n (drop start l)) ≡ behind l start (n - 1) i) where
+  module _ (i : ℕ) (e : ascend 114 99 0 (rowsOf 16 n (drop start l)) ≡ behind 16 114 99 l (start + 16 * i) (n - 1 - i)) where
     pub record-end! : n - 1 ≤ i → true ≡ ascend 114 99 0 (rowsOf 16 n (drop start l))
-    unfolding behind
-    record-end! h =
-        let d : n - 1 - i ≤ 0 = omega arith in
-        sym (e ∙ rw (no-rows 16 (n - 1 - i) (drop (start + 16 * i + 16) l) d) (unfold ascend in refl))
+    record-end! h = sym (e ∙ behind-none 16 114 99 (omega arith) (omega arith) l (start + 16 * i) (n - 1 - i) (omega arith))
 
     module _ (h : i < n - 1) (m : ℕ) (q : m ≡ le2 l (start + 16 * i + 16)) where
-      next : ascend 114 99 0 (rowsOf 16 n (drop start l))
-          ≡ both (eqb (getD l (start + 16 * i + 16) 0) 114) (both (eqb (getD l (start + 16 * i + 16 + 1) 0) 99)
-          (both (leb (le4 l (start + 16 * i + 2) + 1) (le4 l (start + 16 * i + 18))) (behind l start (n - 1) (i + 1))))
-      unfolding behind
-      next =
-          let o : start + 16 * i + 16 + 2 ≡ start + 16 * i + 18 = omega arith in
-          let p : start + 16 * (i + 1) + 2 ≡ start + 16 * i + 18 = omega arith in
-          let r : start + 16 * (i + 1) + 16 ≡ start + 16 * i + 16 + 16 = omega arith in
-          let d : n - 1 - (i + 1) ≡ n - 1 - i - 1 = omega arith in
-          e ∙ ascend-next 16 114 99 (n - 1 - i) (le4 l (start + 16 * i + 2) + 1) (start + 16 * i + 16) l (omega arith) (omega arith) ∙ rw (o, p, r, d)
-
       pub record-mark! : (m ≡ 25458 → ⊥) → false ≡ ascend 114 99 0 (rowsOf 16 n (drop start l))
-      record-mark! f = sym (next ∙ unmarked l (start + 16 * i + 16) 114 99 (λ g. f (q ∙ g)) _)
+      record-mark! f = sym (e ∙ behind-bad 16 114 99 (omega arith) (omega arith) l (start + 16 * i) (n - 1 - i) (omega arith) (λ g. f (q ∙ g)))
 
       module _ (y : Bytes l) (f : m ≡ 25458) (j k : ℕ) (p : j ≡ le4 l (start + 16 * i + 18)) (r : k ≡ le4 l (start + 16 * i + 2)) where
-        keys : ascend 114 99 0 (rowsOf 16 n (drop start l)) ≡ both (leb (k + 1) j) (behind l start (n - 1) (i + 1))
-        keys = next ∙ marked l (start + 16 * i + 16) 114 99 y (omega arith) (sym q ∙ f) _ ∙ rw (← p, ← r)
+        keys : ascend 114 99 0 (rowsOf 16 n (drop start l)) ≡ both (leb (k + 1) j) (behind 16 114 99 l (start + 16 * (i + 1)) (n - 1 - (i + 1)))
+        keys =
+            let o : start + 16 * i + 16 + 2 ≡ start + 16 * i + 18 = omega arith in
+            let v : start + 16 * (i + 1) ≡ start + 16 * i + 16 = omega arith in
+            let d : n - 1 - (i + 1) ≡ n - 1 - i - 1 = omega arith in
+            e ∙ behind-good 16 114 99 (omega arith) (omega arith) l (start + 16 * i) (n - 1 - i) (omega arith) y (sym q ∙ f) ∙ rw (o, ← p, ← r, v, d)
 
         pub record-low : j ≤ k → false ≡ ascend 114 99 0 (rowsOf 16 n (drop start l))
         record-low g = sym (keys ∙ both-false _ _ (lt-leb (k + 1) j (omega arith)))
 
-        pub record-more : k < j → ascend 114 99 0 (rowsOf 16 n (drop start l)) ≡ behind l start (n - 1) (i + 1)
+        pub record-more : k < j → ascend 114 99 0 (rowsOf 16 n (drop start l)) ≡ behind 16 114 99 l (start + 16 * (i + 1)) (n - 1 - (i + 1))
         record-more g = keys ∙ both-true _ _ (le-leb (k + 1) j (omega arith))
 
 -- ---- entries
 
 -- entry i points into from .. to, as the k - i behind it do, and these ascend from its key on
 unfoldable pub among : (from to : ℕ) (l : List ℕ) (k i : ℕ) → Bool
-among from to l k i =
-    both (pointing from to (rowsOf 8 (k - i + 1) (drop (8 * i + 16) l))) (ascend 101 110 (le4 l (8 * i + 18) + 1) (rowsOf 8 (k - i) (drop (8 * i + 24) l)))
+among from to l k i = both (pointing from to (rowsOf 8 (k - i + 1) (drop (8 * i + 16) l))) (behind 8 101 110 l (8 * i + 16) (k - i))
 
 -- ---- tests in another order
 
@@ -176,8 +202,7 @@ alone from to l k =
     let d : k - k ≤ 0 = omega arith in
     let d′ : k - k + 1 - 1 ≤ 0 = omega arith in
     let o : 8 * k + 16 + 6 ≡ 8 * k + 22 = omega arith in
-    let none : ascend 101 110 (le4 l (8 * k + 18) + 1) (rowsOf 8 (k - k) (drop (8 * k + 24) l)) ≡ true =
-    rw (no-rows 8 (k - k) (drop (8 * k + 24) l) d) (unfold ascend in refl) in
+    let none : behind 8 101 110 l (8 * k + 16) (k - k) ≡ true = behind-none 8 101 110 (omega arith) (omega arith) l (8 * k + 16) (k - k) d in
     let rest : pointing from to (rowsOf 8 (k - k + 1 - 1) (drop (8 * k + 16 + 8) l)) ≡ true =
     rw (no-rows 8 (k - k + 1 - 1) (drop (8 * k + 16 + 8) l) d′) (unfold pointing in refl) in
     ap₂ both (pointing-next from to (k - k + 1) (8 * k + 16) l (omega arith)) none
@@ -190,26 +215,18 @@ module _ (from to : ℕ) (l : List ℕ) (n : ℕ) where
   entry-none! e = let h : n ≤ 0 = omega arith in rw (no-rows 8 n (drop 16 l) h) (unfold ascend pointing in refl)
 
   module _ (some : n ≡ 0 → ⊥) (m : ℕ) (q : m ≡ le2 l 16) where
-    more : 0 < n
-    more = split 0 n (λ g. g) (λ g. absurd (some (omega arith)))
-
-    start : ascend 101 110 0 (rowsOf 8 n (drop 16 l))
-        ≡ both (eqb (getD l 16 0) 101) (both (eqb (getD l 17 0) 110)
-        (both (leb 0 (le4 l 18)) (ascend 101 110 (le4 l 18 + 1) (rowsOf 8 (n - 1) (drop 24 l)))))
-    start = ascend-next 8 101 110 n 0 16 l more (omega arith)
-
     pub entry-bad! : (m ≡ 28261 → ⊥) → false ≡ both (ascend 101 110 0 (rowsOf 8 n (drop 16 l))) (pointing from to (rowsOf 8 n (drop 16 l)))
-    entry-bad! f = sym (both-false _ _ (start ∙ unmarked l 16 101 110 (λ e. f (q ∙ e)) _))
+    entry-bad! f = sym (both-false _ _ (front-bad 8 101 110 (omega arith) (omega arith) l 16 n (some-rows n some) (λ e. f (q ∙ e))))
 
     pub entry-first : Bytes l → m ≡ 28261
         → both (ascend 101 110 0 (rowsOf 8 n (drop 16 l))) (pointing from to (rowsOf 8 n (drop 16 l))) ≡ both true (among from to l (n - 1) 0)
     unfolding among
     entry-first y f =
         let d : n - 1 - 0 ≡ n - 1 = omega arith in
-        let k : n - 1 + 1 ≡ n = omega (arith, more) in
-        both-swap _ _
-        ∙ ap (both (pointing from to (rowsOf 8 n (drop 16 l)))) (start ∙ marked l 16 101 110 y (omega arith) (sym q ∙ f) _ ∙ both-true _ _ (le-leb 0 (le4 l 18) (omega arith)))
-        ∙ sym (both-true true _ refl ∙ rw (d, k))
+        let k : n - 1 + 1 ≡ n = omega (arith, some-rows n some) in
+        let g : ascend 101 110 0 (rowsOf 8 n (drop 16 l)) ≡ behind 8 101 110 l 16 (n - 1) =
+        front-good 8 101 110 (omega arith) (omega arith) l 16 n (some-rows n some) y (sym q ∙ f) in
+        both-swap _ _ ∙ ap (both (pointing from to (rowsOf 8 n (drop 16 l)))) g ∙ sym (both-true true _ refl ∙ rw (d, k))
 
   module _ (ok : Bool) (i : ℕ)
       (e : both (ascend 101 110 0 (rowsOf 8 n (drop 16 l))) (pointing from to (rowsOf 8 n (drop 16 l))) ≡ both ok (among from to l (n - 1) i)) where
@@ -221,14 +238,16 @@ module _ (from to : ℕ) (l : List ℕ) (n : ℕ) where
       unfolding among
       next-two =
           let o : 8 * i + 16 + 6 ≡ 8 * i + 22 = omega arith in
-          let p : 8 * i + 16 + 8 ≡ 8 * (i + 1) + 16 = omega arith in
+          let p : 8 * i + 16 + 8 ≡ 8 * i + 24 = omega arith in
+          let p′ : 8 * (i + 1) + 16 ≡ 8 * i + 24 = omega arith in
           let u : n - 1 - i + 1 - 1 ≡ n - 1 - (i + 1) + 1 = omega arith in
           let v : 8 * i + 24 + 2 ≡ 8 * i + 26 = omega arith in
-          let w : 8 * (i + 1) + 18 ≡ 8 * i + 26 = omega arith in
-          let z : 8 * i + 24 + 8 ≡ 8 * (i + 1) + 24 = omega arith in
+          let w : 8 * i + 16 + 2 ≡ 8 * i + 18 = omega arith in
           let d : n - 1 - i - 1 ≡ n - 1 - (i + 1) = omega arith in
-          ap₂ both (pointing-next from to (n - 1 - i + 1) (8 * i + 16) l (omega arith)) (ascend-next 8 101 110 (n - 1 - i) (le4 l (8 * i + 18) + 1) (8 * i + 24) l (omega arith) (omega arith))
-          ∙ rw (o, p, u, v, w, z, d) (shuffle _ _ _ _ _ _ _)
+          ap₂ both
+          (pointing-next from to (n - 1 - i + 1) (8 * i + 16) l (omega arith))
+          (behind-next 8 101 110 (omega arith) (omega arith) l (8 * i + 16) (n - 1 - i) (omega arith))
+          ∙ rw (o, p, p′, u, v, w, d) (shuffle _ _ _ _ _ _ _)
 
       one-number : x ≡ le2 l (8 * i + 22) + 65536 * (getD l (8 * i + 24) 0 + 256 * getD l (8 * i + 24 + 1) 0)
       unfolding le2

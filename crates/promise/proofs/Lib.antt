@@ -1,6 +1,4 @@
--- The rows hold; and demand 3, from the generic half and the units.
-pub mod Computed
-pub mod RowsHold
+-- Demand 3, from the generic half and the units.
 pub mod Standing
 pub mod OnPages
 pub mod Image

@@ -1,4 +1,3 @@
--- What is promised of the calls: the rows of document 01 that are to be proved.
-pub mod Rows
+-- Demand 3, and what its proof takes for what.
 pub mod Parts
 pub mod Promise

@@ -1,1 +1,1 @@
-// No product code: the rows of document 01 and demand 3, over the calls' definitions.
+// No product code: demand 3, over the calls' definitions.

@@ -1,5 +1,3 @@
 -- The public calls, each one definition from everything lent to everything left.
 pub mod Calls
-pub mod Begins
 pub mod Knows
-pub mod Ranges

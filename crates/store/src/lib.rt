@@ -1,25 +1,9 @@
-// The public calls, over slices and numbers by value. None has a `requires`: each tests what it is lent, in the order of document 01's
-// table, and its contract says that all it leaves is what its definition in specs/Calls.antt leaves. Step and recovery are in `forward`.
-mod beginning;
-mod building;
-mod checkpointing;
-mod flushing;
-mod forcing;
-mod fresh;
+// What the ten calls have in common: the two numbers beside the log, test 2, and a log begun anew. The calls' definitions stand in
+// specs/Calls.antt, each from all that the call is lent to all that it leaves; the calls themselves stand in crates of their own (`building`,
+// `beginning`, `stepping`, `recovering`, `keeping`, `answering`). None of them has a `requires`: each tests what it is lent, in the order of document 01's table,
+// and its contract says that all it leaves is what its definition leaves.
+pub mod fresh;
 pub mod known;
-mod listing;
-mod looking;
 
-pub use beginning::begin_compact;
-pub use beginning::begin_order;
-pub use building::build;
-pub use checkpointing::checkpoint;
-pub use flushing::flush;
-pub use forcing::force;
 pub use known::Answer;
 pub use known::Numbers;
-pub use listing::ListAnswer;
-pub use listing::Listed;
-pub use listing::list;
-pub use looking::FindAnswer;
-pub use looking::find;

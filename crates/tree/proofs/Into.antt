@@ -13,7 +13,7 @@ use Rattle.field.specs.Test.{pick}
 use Rattle.tree.specs.Tree.{under, below, allRecords}
 use Rattle.tree.specs.Answer.{between, inBounds, written, countWritten, moreRemain}
 use Rattle.tree.specs.Walk.{Ascending, Spot, Below}
-use Rattle.tree.specs.Reader.{Sound, fromRoot, behind, toCome, On, Ran}
+use Rattle.tree.specs.Reader.{Sound, fromRoot, behind, toCome, On, Ran, Lists}
 use Rattle.tree.specs.declared.walk.Place.{Place}
 use Rattle.tree.proofs.Onward.{come-on, come-end, sound-over, each-under, few-records}
 use Rattle.tree.proofs.Listing.{Same, between-append, between-few, each-between, same-more, same-stop, same-end, length-write, written-run, count-run-all, more-run, count-small, count-least}
@@ -46,6 +46,25 @@ pub spot-page : (w : List ℕ) (q m : ℕ) → length w ≡ 16384 → Spot 16 w 
     → let pg = take (256 * q + 256 - 256 * q) (drop (256 * q) w) in (length pg ≡ 256) × (m ≡ count pg) × (16 + 16 * m ≤ 256) × (0 < m) × Ascending (rows 16 pg)
 spot-page w q m whole s e =
     rw (lent-page q w) (length-page q w whole (s .inside), e, omega (arith, s .fits), omega (arith, s .full), s .order)
+
+-- ---- what list answers
+
+pub ran-answer : (rs : List (List ℕ)) (out out′ : List ℕ) (k : ℕ) (z : Bool) → Ran 0 rs out out′ k z
+    → Lists rs out out′ k z
+ran-answer rs out out′ k z r =
+    (r .0 ∙ written-run rs out, r .1 ∙ count-run-all rs out, ap (λ (b : Bool). pick {A = ℕ} b 1 0) (r .2) ∙ more-run rs out)
+
+-- ---- the count is small
+pub bounds-few : (low high : ℕ) (w : List ℕ) → Sound w → length (inBounds low high w) ≤ 13500
+unfolding inBounds
+bounds-few low high w s = omega (arith, between-few low high (allRecords (pages w)), few-records w s)
+
+pub same-small : (low high : ℕ) (w : List ℕ) (out₀ : List ℕ) (rest : List (List ℕ)) (out : List ℕ) (k : ℕ) → Sound w → Same (inBounds low high w) out₀ 0 rest out k → k ≤ 13500
+same-small low high w out₀ rest out k s r =
+    omega (arith, r .count, count-least rest out k, count-small (inBounds low high w) out₀ 0, bounds-few low high w s)
+
+pub ran-small : (low high : ℕ) (w : List ℕ) (out₀ out′ : List ℕ) (k : ℕ) (z : Bool) → Sound w → Ran 0 (inBounds low high w) out₀ out′ k z → k ≤ 13500
+ran-small low high w out₀ out′ k z s r = omega (arith, r .1, count-small (inBounds low high w) out₀ 0, bounds-few low high w s)
 
 -- ---- a leaf page, then those behind
 
@@ -83,6 +102,21 @@ module _ (w : List ℕ) (sound : Sound w) (every : List (List ℕ)) (out₀ : Li
   pub into-stop : z ≡ true → Ran 0 every out₀ out′ k′ z
   into-stop h = same-stop every out₀ 0 here rest out k apart long-here out′ k′ z ran h
 
+  answer : z ≡ true → Lists every out₀ out′ k′ true
+  answer h = ran-answer every out₀ out′ k′ true (rw h at (into-stop h))
+
+  pub into-bytes : z ≡ true → out′ ≡ written every out₀
+  into-bytes h = answer h .0
+
+  pub into-count : z ≡ true → k′ ≡ countWritten every out₀
+  into-count h = answer h .1
+
+  pub into-remain : z ≡ true → pick true 1 0 ≡ moreRemain every out₀
+  into-remain h = answer h .2
+
+  pub into-few : z ≡ true → inBounds low high w ≡ every → k′ ≤ 13500
+  into-few h q = ran-small low high w out₀ out′ k′ z sound (rw q (into-stop h))
+
   pub into-length : length out′ ≡ length out₀
   into-length = rw (ran .0) (length-write here out k long-here (s .fits)) ∙ s .room
 
@@ -91,22 +125,3 @@ pub into-end : (w : List ℕ) (every : List (List ℕ)) (out₀ : List ℕ) (low
 into-end w every out₀ low high at out k s h =
     let n : between low high [] ≡ [] = unfold between in refl in
     same-end every out₀ 0 out k (rw (come-end w at h, n) at s)
-
--- ---- what list answers
-
-pub ran-answer : (rs : List (List ℕ)) (out out′ : List ℕ) (k : ℕ) (z : Bool) → Ran 0 rs out out′ k z
-    → (out′ ≡ written rs out) × (k ≡ countWritten rs out) × (pick z 1 0 ≡ moreRemain rs out)
-ran-answer rs out out′ k z r =
-    (r .0 ∙ written-run rs out, r .1 ∙ count-run-all rs out, ap (λ (b : Bool). pick {A = ℕ} b 1 0) (r .2) ∙ more-run rs out)
-
--- the count is small
-pub bounds-few : (low high : ℕ) (w : List ℕ) → Sound w → length (inBounds low high w) ≤ 13500
-unfolding inBounds
-bounds-few low high w s = omega (arith, between-few low high (allRecords (pages w)), few-records w s)
-
-pub same-small : (low high : ℕ) (w : List ℕ) (out₀ : List ℕ) (rest : List (List ℕ)) (out : List ℕ) (k : ℕ) → Sound w → Same (inBounds low high w) out₀ 0 rest out k → k ≤ 13500
-same-small low high w out₀ rest out k s r =
-    omega (arith, r .count, count-least rest out k, count-small (inBounds low high w) out₀ 0, bounds-few low high w s)
-
-pub ran-small : (low high : ℕ) (w : List ℕ) (out₀ out′ : List ℕ) (k : ℕ) (z : Bool) → Sound w → Ran 0 (inBounds low high w) out₀ out′ k z → k ≤ 13500
-ran-small low high w out₀ out′ k z s r = omega (arith, r .1, count-small (inBounds low high w) out₀ 0, bounds-few low high w s)

@@ -240,7 +240,8 @@ module _ (f g : ℕ) (records : List ℕ) (b : Buildable f g (length records)) (
   unfolding sheets layoutPage
   sheet-at zero h = sym (pick-true _ _ _ (eq-eqb 0 0 refl))
   sheet-at (suc i) h =
-      let la : length (map (fresh base) bs ++ replicate (7 - length bs) (fresh empty [])) ≡ 7 = fill-length base bs (7 - length bs) ∙ (let e : length bs + (7 - length bs) ≡ 7 = omega (arith, bases) in e) in
+      let e : length bs + (7 - length bs) ≡ 7 = omega (arith, bases) in
+      let la : length (map (fresh base) bs ++ replicate (7 - length bs) (fresh empty [])) ≡ 7 = fill-length base bs (7 - length bs) ∙ e in
       let z : eqb (suc i) 0 ≡ false = ne-eqb (suc i) 0 (λ y. omega arith) in
       split i 7
       (λ a. let k : suc i - 1 ≡ i = omega arith in

@@ -10,7 +10,7 @@ use Rattle.field.specs.Bytes.{put}
 use Rattle.page.specs.Page.{joined, count, rows}
 use Rattle.page.specs.Pages.{page, pages}
 use Rattle.tree.specs.Tree.{below, wellFormed}
-use Rattle.tree.specs.Answer.{roomFor}
+use Rattle.tree.specs.Answer.{roomFor, written, countWritten, moreRemain}
 use Rattle.tree.specs.Walk.{InForm, Spot, Over}
 use Rattle.tree.specs.declared.walk.Place.{Place}
 
@@ -54,3 +54,7 @@ moreAt n rs out = ltb (roomFor out - n) (length rs)
 -- rs written into out behind n others gives the bytes out′ and k records in all, and z tells whether some did not fit
 abbrev pub Ran : (n : ℕ) (rs : List (List ℕ)) (out out′ : List ℕ) (k : ℕ) (z : Bool) → Type 0
 Ran n rs out out′ k z = (out′ ≡ writeAt n rs out) × (k ≡ countAt n rs out) × (z ≡ moreAt n rs out)
+
+-- what list leaves of out and tells, where the records in bounds are rs
+abbrev pub Lists : (rs : List (List ℕ)) (out out′ : List ℕ) (k : ℕ) (z : Bool) → Type 0
+Lists rs out out′ k z = (out′ ≡ written rs out) × (k ≡ countWritten rs out) × (pick z 1 0 ≡ moreRemain rs out)

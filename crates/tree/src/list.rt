@@ -7,8 +7,8 @@ ghost use lib.Dec.{leb};
 ghost use Rattle.field.specs.Test.{both, pick};
 ghost use Rattle.field.specs.Bytes.{put};
 ghost use Rattle.page.specs.Page.{rowsOf, count, rows};
-ghost use Rattle.tree.specs.Answer.{between, inBounds, roomFor, written, countWritten, moreRemain};
-ghost use Rattle.tree.specs.Reader.{Sound, Ran};
+ghost use Rattle.tree.specs.Answer.{between, inBounds, roomFor};
+ghost use Rattle.tree.specs.Reader.{Sound, Ran, Lists};
 ghost use Rattle.tree.specs.Walk.{Ascending, keysWithin};
 use crate::walk;
 use crate::well;
@@ -120,7 +120,7 @@ fn list_page(pg: &[u8], m: u16, low: u32, high: u32, out: &mut [u8], n: usize) -
 // Writes the records with keys low to high, both included, into out.
 pub fn list_into(w: &[u8], low: u32, high: u32, out: &mut [u8]) -> Listed
     requires { ⌜ Sound (now w) ⌝ }
-    ensures { λ r. ⌜ (now (out .exit) ≡ written (inBounds low high (now (w .entry))) (now (out .entry))) × (r .count ≡ countWritten (inBounds low high (now (w .entry))) (now (out .entry))) × (pick (r .more) 1 0 ≡ moreRemain (inBounds low high (now (w .entry))) (now (out .entry))) ⌝ }
+    ensures { λ r. ⌜ Lists (inBounds low high (now (w .entry))) (now (out .entry)) (now (out .exit)) (r .count) (r .more) ⌝ }
 {
     let mut k: usize = 0;
     let mut at = walk::first(w);

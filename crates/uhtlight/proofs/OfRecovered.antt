@@ -3,10 +3,10 @@
 use mathlib.Core.Path.{ap}
 use denote.Steps.{only}
 use denote.Struct.Laws as SL
-use Rattle.forward.proofs.recovering.RecoverAnswer as A
-use Rattle.forward.proofs.recovering.RecoverAnswer.Laws as A′
-use Rattle.forward.proofs.recovering.Recovered as X
-use Rattle.forward.proofs.recovering.Recovered.Laws as X′
+use Rattle.recovering.proofs.RecoverAnswer as A
+use Rattle.recovering.proofs.RecoverAnswer.Laws as A′
+use Rattle.recovering.proofs.Recovered as X
+use Rattle.recovering.proofs.Recovered.Laws as X′
 use Rattle.uhtlight.proofs.Outer.{Answered}
 
 abbrev pub ofRecovered : Answered

@@ -1,17 +1,16 @@
 // The public calls as document 01 has them: bytes used and bytes forced are one small record that each call is lent and updates. A call hands
-// its core in `store` or `forward` a copy of that record, puts what comes back in its place and returns the rest; so its contract is the core's,
-// with the record at entry and at exit for the numbers. Beside them stand the range reader's two, lent the work pages alone. These are also the
-// names that C has.
+// its core a copy of that record, puts what comes back in its place and returns the rest; so its contract is the core's, with the record at
+// entry and at exit for the numbers. Beside them stand the range reader's two, lent the work pages alone. These are also the names that C has.
 ghost use mathlib.Core.Path.{_≡_};
 ghost use mathlib.Core.List.{[], _∷_};
 ghost use Rattle.field.specs.Test.{pick};
 ghost use Rattle.range.specs.Reading.{startFrom, nextFrom};
 ghost use Rattle.store.specs.Calls.{lent, left, build, recover, beginCompact, beginOrder, step, flush, force, checkpoint, find, list};
+use answering::Listed;
 use field::PageNo;
-use forward::Recovered;
 use range::steps::Reached;
 use range::steps::Step;
-use store::Listed;
+use recovering::Recovered;
 use store::Numbers;
 use tree::find::Found;
 use tree::walk::Place;
@@ -30,7 +29,7 @@ pub extern "C" fn uhtlight_build(
     ensures built { λ r. ⌜ left r [] (lent (now (n .exit) .used) (now (n .exit) .forced) (now (work .exit)) (now (store .exit)) (now (log .exit)) (now (records .entry)))
         ≡ build f g (lent (now (n .entry) .used) (now (n .entry) .forced) (now (work .entry)) (now (store .entry)) (now (log .entry)) (now (records .entry))) ⌝ }
 {
-    let a = store::build(*n, work, store, log, records, f, g);
+    let a = building::build(*n, work, store, log, records, f, g);
     *n = a.numbers;
     a.reply
 }
@@ -46,7 +45,7 @@ pub extern "C" fn uhtlight_recover(
     ensures recovered { λ r. ⌜ left (r .reply) (r .count ∷ []) (lent (now (n .exit) .used) (now (n .exit) .forced) (now (work .exit)) (now (store .entry)) (now (log .exit)) [])
         ≡ recover (lent (now (n .entry) .used) (now (n .entry) .forced) (now (work .entry)) (now (store .entry)) (now (log .entry)) []) ⌝ }
 {
-    let a = forward::recover(*n, work, store, log);
+    let a = recovering::recover(*n, work, store, log);
     *n = a.numbers;
     a.recovered
 }
@@ -62,7 +61,7 @@ pub extern "C" fn uhtlight_begin_compact(
     ensures begun { λ r. ⌜ left r [] (lent (now (n .exit) .used) (now (n .exit) .forced) (now (work .entry)) [] (now (log .exit)) [])
         ≡ beginCompact fill (lent (now (n .entry) .used) (now (n .entry) .forced) (now (work .entry)) [] (now (log .entry)) []) ⌝ }
 {
-    let a = store::begin_compact(*n, work, log, fill);
+    let a = beginning::begin_compact(*n, work, log, fill);
     *n = a.numbers;
     a.reply
 }
@@ -73,7 +72,7 @@ pub extern "C" fn uhtlight_begin_order(n: &mut Numbers, work: &[u8], log: &mut [
     ensures begun { λ r. ⌜ left r [] (lent (now (n .exit) .used) (now (n .exit) .forced) (now (work .entry)) [] (now (log .exit)) [])
         ≡ beginOrder (lent (now (n .entry) .used) (now (n .entry) .forced) (now (work .entry)) [] (now (log .entry)) []) ⌝ }
 {
-    let a = store::begin_order(*n, work, log);
+    let a = beginning::begin_order(*n, work, log);
     *n = a.numbers;
     a.reply
 }
@@ -84,7 +83,7 @@ pub extern "C" fn uhtlight_step(n: &mut Numbers, work: &mut [u8], log: &mut [u8]
     ensures stepped { λ r. ⌜ left r [] (lent (now (n .exit) .used) (now (n .exit) .forced) (now (work .exit)) [] (now (log .exit)) [])
         ≡ step (lent (now (n .entry) .used) (now (n .entry) .forced) (now (work .entry)) [] (now (log .entry)) []) ⌝ }
 {
-    let a = forward::step(*n, work, log);
+    let a = stepping::step(*n, work, log);
     *n = a.numbers;
     a.reply
 }
@@ -101,7 +100,7 @@ pub extern "C" fn uhtlight_flush(
     ensures flushed { λ r. ⌜ left r [] (lent (now (n .exit) .used) (now (n .exit) .forced) (now (work .entry)) (now (store .exit)) (now (log .entry)) [])
         ≡ flush (p .0) (lent (now (n .entry) .used) (now (n .entry) .forced) (now (work .entry)) (now (store .entry)) (now (log .entry)) []) ⌝ }
 {
-    let a = store::flush(*n, work, store, log, p);
+    let a = keeping::flush(*n, work, store, log, p);
     *n = a.numbers;
     a.reply
 }
@@ -112,7 +111,7 @@ pub extern "C" fn uhtlight_force(n: &mut Numbers, log: &[u8]) -> u8
     ensures forced { λ r. ⌜ left r [] (lent (now (n .exit) .used) (now (n .exit) .forced) [] [] (now (log .entry)) [])
         ≡ force (lent (now (n .entry) .used) (now (n .entry) .forced) [] [] (now (log .entry)) []) ⌝ }
 {
-    let a = store::force(*n, log);
+    let a = keeping::force(*n, log);
     *n = a.numbers;
     a.reply
 }
@@ -129,7 +128,7 @@ pub extern "C" fn uhtlight_checkpoint(
     ensures replaced { λ r. ⌜ left r [] (lent (now (n .exit) .used) (now (n .exit) .forced) (now (work .entry)) (now (store .entry)) (now (log .exit)) [])
         ≡ checkpoint clear (lent (now (n .entry) .used) (now (n .entry) .forced) (now (work .entry)) (now (store .entry)) (now (log .entry)) []) ⌝ }
 {
-    let a = store::checkpoint(*n, work, store, log, clear);
+    let a = keeping::checkpoint(*n, work, store, log, clear);
     *n = a.numbers;
     a.reply
 }
@@ -140,7 +139,7 @@ pub extern "C" fn uhtlight_find(n: &mut Numbers, work: &[u8], log: &[u8], key: u
     ensures found { λ r. ⌜ left (r .reply) (r .value) (lent (now (n .exit) .used) (now (n .exit) .forced) (now (work .entry)) [] (now (log .entry)) [])
         ≡ find key (lent (now (n .entry) .used) (now (n .entry) .forced) (now (work .entry)) [] (now (log .entry)) []) ⌝ }
 {
-    let a = store::find(*n, work, log, key);
+    let a = answering::find(*n, work, log, key);
     *n = a.numbers;
     a.found
 }
@@ -158,7 +157,7 @@ pub extern "C" fn uhtlight_list(
     ensures listed { λ r. ⌜ left (r .reply) (r .count ∷ pick (r .more) 1 0 ∷ []) (lent (now (n .exit) .used) (now (n .exit) .forced) (now (work .entry)) [] (now (log .entry)) (now (out .exit)))
         ≡ list low high (lent (now (n .entry) .used) (now (n .entry) .forced) (now (work .entry)) [] (now (log .entry)) (now (out .entry))) ⌝ }
 {
-    let a = store::list(*n, work, log, low, high, out);
+    let a = answering::list(*n, work, log, low, high, out);
     *n = a.numbers;
     a.listed
 }

@@ -26,9 +26,9 @@ use Rattle.walks.proofs.Meeting.{ownsBeside, LastBeside, saysBeside, asks-nothi
 use Rattle.walks.proofs.Beside.{lentMut}
 use Rattle.store.proofs.known.Numbers as N
 use Rattle.store.proofs.known.Numbers.Laws as N′
-use Rattle.forward.proofs.step as core
-use Rattle.forward.proofs.step.Symbol as core-def
-use Rattle.forward.proofs.step.Met as core-thm
+use Rattle.stepping.proofs.step as core
+use Rattle.stepping.proofs.step.Symbol as core-def
+use Rattle.stepping.proofs.step.Met as core-thm
 use Rattle.uhtlight.proofs.Outer.{outer-runs}
 use Rattle.uhtlight.proofs.OfReply.{ofReply}
 use Rattle.uhtlight.proofs.uhtlight_step as f
@@ -60,5 +60,5 @@ unfolding code.routine
 uhtlight-step-spec 𝓤 H 𝓜 𝓖 𝓡 =
     met-over 𝓤 H 𝓜 𝓖 𝓡 f.signature (f.spec 𝓤 H (𝓖 .A) (𝓜 .mem) (𝓡 .run)) code.env key.name code.function (code.unfolded 𝓤 H 𝓜 𝓡) spelled
     (λ κs. (mut-tells (named 0) (κs .0) N.the-row, (mut-slice-tells (named 1) (κs .1 .0) u8, (mut-slice-tells (named 2) (κs .1 .1 .0) u8, tt))))
-    core-def.name core-def.routine code.calls-forward·step core.signature (core.spec 𝓤 H (𝓖 .A) (𝓜 .mem) (𝓡 .run)) (core-thm.met 𝓤 H 𝓜 𝓖 𝓡)
+    core-def.name core-def.routine code.calls-stepping·step core.signature (core.spec 𝓤 H (𝓖 .A) (𝓜 .mem) (𝓡 .run)) (core-thm.met 𝓤 H 𝓜 𝓖 𝓡)
     (walk 𝓤 H (𝓖 .A) (givenOf 𝓤 H 𝓜 𝓖) (𝓜 .mem) (𝓡 .run))

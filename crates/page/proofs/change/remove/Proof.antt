@@ -50,8 +50,10 @@ add-clear c = search needs
 
 clear-requires : tie.Need-clear-requires
 clear-requires c κs =
-    let a = c .before .before .before .before .before .before .before .before .before .before .before .before in
-    omega (arith, c .before .before .before .shift .kept .0, c .before .before .before .before .before .before .before .set-head .kept .0, base-whole (a .args .pg .now) (a .pre .0), base-room (a .args .pg .now) (a .pre .0))
+    let h = c .before .before .before .before .before .before .before in
+    let a = h .before .before .before .before .before in
+    let pg = a .args .pg .now in
+    omega (arith, c .before .before .before .shift .kept .0, h .set-head .kept .0, base-whole pg (a .pre .0), base-room pg (a .pre .0))
 
 same-length : tie.Need-same-length
 same-length c = search needs

@@ -15,8 +15,9 @@ returns c = let a = c .before .before .before in points-head! 98 8 101 110 1 30 
 
 entries-ok-requires : tie.Need-entries-ok-requires
 entries-ok-requires c κs =
-    let a = c .before .before .before in
-    (head-whole 98 1 30 (a .args .pg .now) _ (c .before .head-ok .ensures) (c .if1 .left), head-most 98 1 30 (a .args .pg .now) _ (c .before .head-ok .ensures) (c .if1 .left), omega arith, omega arith)
+    let pg = c .before .before .before .args .pg .now in
+    let h = c .before .head-ok .ensures in
+    (head-whole 98 1 30 pg _ h (c .if1 .left), head-most 98 1 30 pg _ h (c .if1 .left), omega arith, omega arith)
 
 returns-2 : tie.Need-returns-2
 unfolding isBase

@@ -1,6 +1,6 @@
 -- `page::form::records_ascend` meets its contract. The invariant: all records ascend where those behind record i do, from its key on. Assumes
 -- nothing.
-use Prim.Native.Nat.{_≤_, _-_}
+use Prim.Native.Nat.{_≤_, _+_, _-_, _*_}
 use mathlib.Core.Path.{_≡_}
 use native.Mathlib.Omega.{arith}
 use lib.ListN.{drop}
@@ -11,10 +11,14 @@ use Rattle.page.proofs.form.records_ascend.Statement.{statement}
 use Rattle.page.proofs.form.records_ascend.Tie as tie
 
 abbrev Inv-loop : tie.InvT-loop
-Inv-loop s start n last i₀ i = (i ≤ last) × (ascend 114 99 0 (rowsOf 16 n (drop start s)) ≡ behind s start (n - 1) i)
+Inv-loop s start n last i₀ i = (i ≤ last) × (ascend 114 99 0 (rowsOf 16 n (drop start s)) ≡ behind 16 114 99 s (start + 16 * i) (n - 1 - i))
 
 abbrev μ-loop : tie.MeasureT-loop
 μ-loop s start n last i₀ i = last - i
+
+-- what is lent are bytes
+bytes : (c : tie.In-loop Inv-loop μ-loop) → Bytes (c .before .before .before .before .before .before .args .s .now)
+bytes c i = omega (arith, c .before .before .before .before .before .shared-slice-known .given i)
 
 returns : tie.Need-returns Inv-loop μ-loop
 returns c = search record-none!
@@ -62,11 +66,7 @@ get4-requires-2 : tie.Need-get4-requires-2 Inv-loop μ-loop
 get4-requires-2 c κs = omega arith
 
 returns-4 : tie.Need-returns-4 Inv-loop μ-loop
-returns-4 c =
-    let turn = c .before .before .before .before .before in
-    let a = turn .before .before .before .before .before .before in
-    let y : Bytes (a .args .s .now) = λ i. omega (arith, turn .before .before .before .before .before .shared-slice-known .given i) in
-    record-low (a .args .s .now) (a .args .start) (a .args .n) _ (turn .before .loop .inv .1) (turn .loop-test .taken) _ (c .before .before .before .before .get22 .ensures) y (c .before .before .before .if3 .left) _ _ (c .before .before .get4 .ensures) (c .before .get42 .ensures) (c .if4 .taken)
+returns-4 c = search (record-low, bytes (c .before .before .before .before .before))
 
 add-i : tie.Need-add-i Inv-loop μ-loop
 add-i c = omega arith
@@ -75,11 +75,7 @@ loop-less : tie.Need-loop-less Inv-loop μ-loop
 loop-less c = omega arith
 
 loop-again : tie.Need-loop-again Inv-loop μ-loop
-loop-again c =
-    let turn = c .before .before .before .before .before in
-    let a = turn .before .before .before .before .before .before in
-    let y : Bytes (a .args .s .now) = λ i. omega (arith, turn .before .before .before .before .before .shared-slice-known .given i) in
-    (omega arith, record-more (a .args .s .now) (a .args .start) (a .args .n) _ (turn .before .loop .inv .1) (turn .loop-test .taken) _ (c .before .before .before .before .get22 .ensures) y (c .before .before .before .if3 .left) _ _ (c .before .before .get4 .ensures) (c .before .get42 .ensures) (c .if4 .left))
+loop-again c = (omega arith, search (record-more, bytes (c .before .before .before .before .before)))
 
 returns-5 : tie.Need-returns-5 Inv-loop μ-loop
 returns-5 c = search record-end!

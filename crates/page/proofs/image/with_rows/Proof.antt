@@ -32,9 +32,10 @@ cast-copy c = search needs
 
 -- the rows are in the page
 room : (c : tie.After-image4)
-    → c .before .before .before .before .before .before .before .args .sz * c .before .before .before .before .count .result ≡ c .before .before .before .before .before .before .before .args .sz * count (c .before .before .before .before .before .before .before .args .t1)
+    → let a = c .before .before .before .before .before .before .before in a .args .sz * c .before .before .before .before .count .result ≡ a .args .sz * count (a .args .t1)
 room c =
-    ap (λ (x : ℕ). c .before .before .before .before .before .before .before .args .sz * x) (c .before .before .before .before .count .ensures)
+    let a = c .before .before .before .before .before .before .before in
+    ap (λ (x : ℕ). a .args .sz * x) (c .before .before .before .before .count .ensures)
 
 mul-copy : tie.Need-mul-copy
 mul-copy c = omega (arith, room c)

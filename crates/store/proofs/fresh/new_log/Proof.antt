@@ -1,5 +1,5 @@
 -- `store::fresh::new_log` meets its contract: zeros, then the check record over them. Assumes nothing.
-use Rattle.store.proofs.Builds.{new-log! }
+use Rattle.store.proofs.Anew.{new-log! }
 use borrow.Author.Needs.{needs}
 use Rattle.store.proofs.fresh.new_log.Statement.{statement}
 use Rattle.store.proofs.fresh.new_log.Tie as tie

@@ -49,7 +49,9 @@ loop-again c =
     let long : length (x .result) ≡ 256 = ap length (x .ensures) ∙ page-long (a .args .f) (a .args .g) (a .args .records .now) (a .pre .1) bytes (l .loop .p) in (
       omega arith,
       rw (s .ensures) (length-putPage (l .loop .p) (l .loop .w) (l .loop .inv .1) small (x .result) long),
-      λ q h. rw (s .ensures) (laid-more (a .args .f) (a .args .g) (a .args .records .now) (a .pre .1) bytes (l .loop .w) (x .result) (l .loop .p) (l .loop .inv .1) small (x .ensures) (l .loop .inv .2) q h),
+      λ q h. rw (s .ensures)
+          (laid-more (a .args .f) (a .args .g) (a .args .records .now) (a .pre .1) bytes (l .loop .w) (x .result) (l .loop .p) (l .loop .inv .1) small
+          (x .ensures) (l .loop .inv .2) q h),
     )
 
 same-length : tie.Need-same-length Inv-loop μ-loop

@@ -22,7 +22,9 @@ entries-image-requires c κs =
     let k = c .before .before .pieces in
     let eb : c .pieces2 .result ≡ pieces (pieces (length (a .args .records .now) / 16) (a .args .f)) (a .args .g) =
     c .pieces2 .ensures ∙ ap (λ (x : ℕ). pieces x (a .args .g)) (k .ensures) in
-    (a .pre .0 .leaf-least, a .pre .0 .base-most, omega (arith, eb, a .pre .0 .bases), omega (arith, eb, a .pre .0 .bases), rw eb (root-leaves (a .args .f) (a .args .g) (a .args .records .now) (a .pre .0)))
+    let fits = a .pre .0 in
+    let leaves = root-leaves (a .args .f) (a .args .g) (a .args .records .now) fits in
+    (fits .leaf-least, fits .base-most, omega (arith, eb, fits .bases), omega (arith, eb, fits .bases), rw eb leaves)
 
 returns : tie.Need-returns
 returns c =
@@ -61,7 +63,8 @@ returns-3 : tie.Need-returns-3
 returns-3 c =
     let a = c .before .before .before .before .before .before in
     let k = c .before .before .before .before .pieces in
-    leaf-page-is (a .args .f) (a .args .g) (a .args .records .now) (a .pre .0) (a .args .p) (c .before .before .before .if1 .left) (c .before .before .if2 .left) (c .leaf-image .result) (omega (arith, k .ensures, c .before .if3 .taken)) (c .leaf-image .ensures)
+    leaf-page-is (a .args .f) (a .args .g) (a .args .records .now) (a .pre .0) (a .args .p) (c .before .before .before .if1 .left)
+    (c .before .before .if2 .left) (c .leaf-image .result) (omega (arith, k .ensures, c .before .if3 .taken)) (c .leaf-image .ensures)
 
 blank-requires : tie.Need-blank-requires
 blank-requires c κs = search needs
@@ -70,7 +73,8 @@ returns-4 : tie.Need-returns-4
 returns-4 c =
     let a = c .before .before .before .before .before .before in
     let k = c .before .before .before .before .pieces in
-    empty-page-is (a .args .f) (a .args .g) (a .args .records .now) (a .pre .0) (a .args .p) (c .before .before .before .if1 .left) (c .before .before .if2 .left) (c .blank .result) (omega (arith, k .ensures, c .before .if3 .left)) (c .blank .ensures)
+    empty-page-is (a .args .f) (a .args .g) (a .args .records .now) (a .pre .0) (a .args .p) (c .before .before .before .if1 .left)
+    (c .before .before .if2 .left) (c .blank .result) (omega (arith, k .ensures, c .before .if3 .left)) (c .blank .ensures)
 
 pub image-at-spec : {M : Type 1} → statement M
 image-at-spec =

@@ -50,9 +50,11 @@ with-rows-requires c κs =
     let m = c .before .before .least in
     let a = c .before .before .before .before in
     let at = 16 * (a .args .f * a .args .i) in
-    let rs = a .args .records .now in (
+    let rs = a .args .records .now in
+    let none = blank-count (im .result) (im .ensures) in
+    let long = length-part at (16 * m .result) rs (omega (arith, m .ensures)) in (
       blank-again (im .result) (im .ensures),
-      (rw (lent-part at (16 * m .result) rs) (length-part at (16 * m .result) rs (omega (arith, m .ensures))), omega (arith, blank-count (im .result) (im .ensures), m .ensures), omega (arith, blank-count (im .result) (im .ensures), m .ensures)),
+      (rw (lent-part at (16 * m .result) rs) long, omega (arith, none, m .ensures), omega (arith, none, m .ensures)),
     )
 
 returns : tie.Need-returns

@@ -24,7 +24,11 @@ leaf-on-requires : tie.Need-leaf-on-requires
 leaf-on-requires c κs = search needs
 
 returns : tie.Need-returns
-returns c = let a = c .before .before .before in (cc (lent-page (a .args .p) (a .args .w .now), leaf-page (a .args .key) (a .args .p) (a .args .w .now)), cc (lent-page (a .args .p) (a .args .w .now), leaf-page (a .args .key) (a .args .p) (a .args .w .now)))
+returns c =
+    let a = c .before .before .before in
+    let lends = lent-page (a .args .p) (a .args .w .now) in
+    let on = leaf-page (a .args .key) (a .args .p) (a .args .w .now) in
+    (cc (lends, on), cc (lends, on))
 
 pub in-leaf-spec : {M : Type 1} → statement M
 in-leaf-spec =

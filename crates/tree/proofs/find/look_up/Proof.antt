@@ -37,8 +37,10 @@ in-leaf-requires c κs =
     let d = c .before .before .before in
     let b = d .before .before in
     let a = b .before .before in
-    let s = leaf-small (a .before .before .args .key) (a .before .before .args .w .now) (a .down .result) (a .down .ensures) _ (b .b .given .1) (d .down2 .result) (d .down2 .ensures) _ (c .before .p .given .1) in
-    (a .before .before .pre, omega arith, omega arith)
+    let start = a .before .before in
+    let s = leaf-small (start .args .key) (start .args .w .now) (a .down .result) (a .down .ensures) _ (b .b .given .1) (d .down2 .result) (d .down2 .ensures)
+    _ (c .before .p .given .1) in
+    (start .pre, omega arith, omega arith)
 
 returns : tie.Need-returns
 returns c = (search root-reply!, search root-bytes!)

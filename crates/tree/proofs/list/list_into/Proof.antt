@@ -1,4 +1,5 @@
 -- `tree::list::list_into` meets its contract. Assumes nothing.
+use Prim.Native.Nat.{_≤_}
 use mathlib.Core.Path.{_≡_}
 use mathlib.Core.Bool.{true, false}
 use lib.ListN.{length}
@@ -6,7 +7,7 @@ use Rattle.tree.specs.Answer.{between, inBounds}
 use Rattle.tree.specs.Reader.{toCome, On, Stands}
 use Rattle.tree.proofs.Onward.{behind-less}
 use Rattle.tree.proofs.Listing.{Same, same-start}
-use Rattle.tree.proofs.Into.{spot-page, into-more, into-stop, into-length, into-end, ran-answer, same-small, ran-small}
+use Rattle.tree.proofs.Into.{spot-page, into-more, into-bytes, into-count, into-remain, into-few, into-length, into-end, ran-answer, same-small}
 use native.Mathlib.Omega.{arith}
 use Rattle.tree.proofs.list.list_into.Statement.{statement}
 use Rattle.tree.proofs.list.list_into.Tie as tie
@@ -72,31 +73,16 @@ list-page-requires c κs =
 
 cast-t19 : tie.Need-cast-t19 Inv-loop μ-loop
 cast-t19 c =
-    let l = c .before .before .before .before .before .before .before .before .before .before in
-    let a = l .before .before .before .before in
-    let w = a .args .w .now in
-    let at = l .loop .at in
-    let h = on (c .before .before .before .before .before .before .before .before) in
-    let r = into-stop w (a .pre) _ _ (a .args .low) (a .args .high) at h (l .loop .inv .1) (l .loop .out) (l .loop .k) (l .loop .inv .2) _ (c .before .before .before .before .before .count-at .ensures) _ _ _ (c .before .before .before .list-page .ensures) (c .if2 .taken) in
-    omega (arith, ran-small (a .args .low) (a .args .high) w _ _ _ _ (a .pre) r)
+    let few : c .before .before .before .list-page .result .count ≤ 13500 = search (into-few, on (c .before .before .before .before .before .before .before .before)) in
+    omega (arith, few)
 
 same-length : tie.Need-same-length Inv-loop μ-loop
-same-length c =
-    let l = c .before .before .before .before .before .before .before .before .before .before in
-    let a = l .before .before .before .before in
-    let w = a .args .w .now in
-    let at = l .loop .at in
-    let h = on (c .before .before .before .before .before .before .before .before) in
-    into-length w (a .pre) _ _ (a .args .low) (a .args .high) at h (l .loop .inv .1) (l .loop .out) (l .loop .k) (l .loop .inv .2) _ (c .before .before .before .before .before .count-at .ensures) _ _ _ (c .before .before .before .list-page .ensures)
+same-length c = search (into-length, on (c .before .before .before .before .before .before .before .before))
 
 returns : tie.Need-returns Inv-loop μ-loop
 returns c =
-    let l = c .before .before .before .before .before .before .before .before .before .before in
-    let a = l .before .before .before .before in
-    let w = a .args .w .now in
-    let at = l .loop .at in
     let h = on (c .before .before .before .before .before .before .before .before) in
-    ran-answer _ _ _ _ true (rw (c .if2 .taken) at (into-stop w (a .pre) _ _ (a .args .low) (a .args .high) at h (l .loop .inv .1) (l .loop .out) (l .loop .k) (l .loop .inv .2) _ (c .before .before .before .before .before .count-at .ensures) _ _ _ (c .before .before .before .list-page .ensures) (c .if2 .taken)))
+    (search (into-bytes, h), search (into-count, h), search (into-remain, h))
 
 next-leaf-requires : tie.Need-next-leaf-requires Inv-loop μ-loop
 next-leaf-requires c κs =
@@ -118,13 +104,8 @@ loop-less c =
 
 loop-again : tie.Need-loop-again Inv-loop μ-loop
 loop-again c =
-    let l = c .before .before .before .before .before .before .before .before .before .before .before in
-    let a = l .before .before .before .before in
-    let w = a .args .w .now in
-    let at = l .loop .at in
-    let h = on (c .before .before .before .before .before .before .before .before .before) in
     let x = c .next-leaf .ensures in
-    (x .0, x .2, into-more w (a .pre) _ _ (a .args .low) (a .args .high) at h (l .loop .inv .1) (l .loop .out) (l .loop .k) (l .loop .inv .2) _ (c .before .before .before .before .before .before .count-at .ensures) _ _ _ (c .before .before .before .before .list-page .ensures) (c .before .if2 .left) (c .next-leaf .result) (x .1))
+    (x .0, x .2, search (into-more, on (c .before .before .before .before .before .before .before .before .before)))
 
 cast-t20 : tie.Need-cast-t20 Inv-loop μ-loop
 cast-t20 c =

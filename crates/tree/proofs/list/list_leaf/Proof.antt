@@ -38,16 +38,10 @@ list-one-requires c κs =
     (rw (lent-part (l .loop .at) 16 (a .args .pg .now)) (length-part (l .loop .at) 16 (a .args .pg .now) (omega arith)), l .loop .inv .2 .fits)
 
 same-length : tie.Need-same-length Inv-loop μ-loop
-same-length c =
-    let l = c .before .before .before .before .before .before .before in
-    let a = l .before .before .before in
-    leaf-length _ _ _ (a .args .low) (a .args .high) (l .loop .left) (l .loop .at) (a .args .pg .now) (l .loop .out) (l .loop .k) (l .loop .inv .2) (c .before .before .before .before .before .before .loop-test .taken) (omega arith) _ _ _ (c .before .before .before .list-one .ensures)
+same-length c = search leaf-length
 
 returns : tie.Need-returns Inv-loop μ-loop
-returns c =
-    let l = c .before .before .before .before .before .before .before in
-    let a = l .before .before .before in
-    leaf-stop _ _ _ (a .args .low) (a .args .high) (l .loop .left) (l .loop .at) (a .args .pg .now) (l .loop .out) (l .loop .k) (l .loop .inv .2) (c .before .before .before .before .before .before .loop-test .taken) (omega arith) _ _ _ (c .before .before .before .list-one .ensures) (c .if1 .taken)
+returns c = search leaf-stop
 
 add-at : tie.Need-add-at Inv-loop μ-loop
 add-at c = omega arith
@@ -60,18 +54,22 @@ loop-less c = omega arith
 
 loop-again : tie.Need-loop-again Inv-loop μ-loop
 loop-again c =
-    let l = c .before .before .before .before .before .before .before in
+    let t = c .before .before .before .before .before .before in
+    let l = t .before in
     let a = l .before .before .before in
-    (omega arith, omega arith, leaf-more _ _ _ (a .args .low) (a .args .high) (l .loop .left) (l .loop .at) (a .args .pg .now) (l .loop .out) (l .loop .k) (l .loop .inv .2) (c .before .before .before .before .before .before .loop-test .taken) (omega arith) _ _ _ (c .before .before .before .list-one .ensures) (c .if1 .left))
+    let r = c .before .before .before .list-one .ensures in
+    let fits : l .loop .at + 16 * l .loop .left ≤ length (a .args .pg .now) = l .loop .inv .1 in (
+      omega arith,
+      omega arith,
+      leaf-more _ _ _ (a .args .low) (a .args .high) (l .loop .left) (l .loop .at) (a .args .pg .now) (l .loop .out) (l .loop .k)
+          (l .loop .inv .2) (t .loop-test .taken) fits _ _ _ r (c .if1 .left),
+    )
 
 same-length-2 : tie.Need-same-length-2 Inv-loop μ-loop
 same-length-2 c = c .before .loop .inv .2 .room
 
 returns-2 : tie.Need-returns-2 Inv-loop μ-loop
-returns-2 c =
-    let l = c .before in
-    let a = l .before .before .before in
-    leaf-end _ _ _ (a .args .low) (a .args .high) (l .loop .left) (l .loop .at) (a .args .pg .now) (l .loop .out) (l .loop .k) (l .loop .inv .2) (c .loop-test .left)
+returns-2 c = search leaf-end
 
 pub list-leaf-spec : {M : Type 1} → statement M
 list-leaf-spec =

@@ -22,9 +22,11 @@ returns-2 c =
 
 returns-3 : tie.Need-returns-3
 returns-3 c =
-    let a = c .before .before .before .before .before .before in
-    let g = c .before .before .before .get4 in
-    one-full (a .args .rc .now) (a .args .low) (a .args .high) (a .args .out .now) (a .args .n) (g .result) (g .ensures) (c .before .before .if1 .left) (c .before .if2 .left) (a .pre .1) (c .if3 .taken)
+    let h = c .before .before in
+    let a = h .before .before .before .before in
+    let g = h .before .get4 in
+    one-full (a .args .rc .now) (a .args .low) (a .args .high) (a .args .out .now) (a .args .n) (g .result) (g .ensures)
+    (h .if1 .left) (c .before .if2 .left) (a .pre .1) (c .if3 .taken)
 
 put-record-requires : tie.Need-put-record-requires
 put-record-requires c κs = search needs
@@ -37,9 +39,12 @@ same-length c = search needs
 
 returns-4 : tie.Need-returns-4
 returns-4 c =
-    let a = c .before .before .before .before .before .before .before .before .before .before in
-    let g = c .before .before .before .before .before .before .before .get4 in
-    let o = one-written (a .args .rc .now) (a .args .low) (a .args .high) (a .args .out .now) (a .args .n) (g .result) (g .ensures) (c .before .before .before .before .before .before .if1 .left) (c .before .before .before .before .before .if2 .left) (c .before .before .before .before .if3 .left) in
+    let full = c .before .before .before .before in
+    let low = full .before .before in
+    let a = low .before .before .before .before in
+    let g = low .before .get4 in
+    let o = one-written (a .args .rc .now) (a .args .low) (a .args .high) (a .args .out .now) (a .args .n) (g .result) (g .ensures)
+    (low .if1 .left) (full .before .if2 .left) (full .if3 .left) in
     (c .before .before .put-record .ensures ∙ o .0, o .1, o .2)
 
 pub list-one-spec : {M : Type 1} → statement M

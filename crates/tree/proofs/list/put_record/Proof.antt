@@ -28,8 +28,10 @@ same-length c = search needs
 
 returns : tie.Need-returns
 returns c =
-    let a = c .before .before .before .before .before .before .before .before .before .before in
-    c .before .before .copy2 .ensures ∙ ap (λ (r : List ℕ). put (16 * a .args .n) r (a .args .out .now)) (c .before .before .before .before .before .before .copy .ensures ∙ put-whole (a .args .rc .now) _ (a .pre .0))
+    let first = c .before .before .before .before .before .before in
+    let a = first .before .before .before .before in
+    let whole = first .copy .ensures ∙ put-whole (a .args .rc .now) _ (a .pre .0) in
+    c .before .before .copy2 .ensures ∙ ap (λ (r : List ℕ). put (16 * a .args .n) r (a .args .out .now)) whole
 
 pub put-record-spec : {M : Type 1} → statement M
 put-record-spec =

@@ -104,7 +104,10 @@ loop-again c =
     )
 
 returns : tie.Need-returns Inv-loop μ-loop
-returns c = let l = c .before in let a = l .before .before .before in under-end (a .args .w .now) (l .loop .sum) (l .loop .left) (l .loop .at) (a .args .pg .now) _ _ (l .loop .inv .4) (c .loop-test .left)
+returns c =
+    let l = c .before in
+    let a = l .before .before .before in
+    under-end (a .args .w .now) (l .loop .sum) (l .loop .left) (l .loop .at) (a .args .pg .now) _ _ (l .loop .inv .4) (c .loop-test .left)
 
 pub tally-under-spec : {M : Type 1} → statement M
 tally-under-spec =

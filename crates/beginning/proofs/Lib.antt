@@ -1,0 +1,3 @@
+-- Laws about each way through the calls' tests.
+pub mod Begins
+pub mod Units

@@ -1,0 +1,2 @@
+-- What contracts inside the crate say.
+pub mod Begins

@@ -1,0 +1,2 @@
+-- Laws about each way through the calls' tests.
+pub mod Builds

@@ -1,0 +1,4 @@
+-- Laws about each way through the calls' tests.
+pub mod Flushes
+pub mod Replaces
+pub mod Writing

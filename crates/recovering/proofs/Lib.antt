@@ -1,0 +1,4 @@
+-- Laws about each way through the call.
+pub mod Finishing
+pub mod Newer
+pub mod Recovers

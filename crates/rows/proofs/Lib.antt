@@ -1,0 +1,3 @@
+-- The rows hold, by computing.
+pub mod Computed
+pub mod RowsHold

@@ -1,0 +1,2 @@
+-- The rows of document 01 that are to be proved.
+pub mod Rows

@@ -1,0 +1,2 @@
+-- Laws about each way through the call.
+pub mod Steps

@@ -17,7 +17,9 @@
  *   log      8,192 bytes: the log, records one after the other, zeros behind
  *   numbers  how many bytes of the log are used, and how many of these are forced
  *
- * Every call is lent what it needs and keeps nothing. The library has no memory of its own, and allocates none.
+ * Every call is lent what it needs and keeps nothing. The library has no memory of its own, and allocates none. A buffer is two arguments, where
+ * it begins and how many bytes are lent. The pointer must be valid for so many bytes, to be written too where it isn't const, and the
+ * buffers of one call, the numbers among them, may not overlap: that is all that a call cannot test.
  *
  * WHAT THE CHIP MUST DO
  *
@@ -41,6 +43,15 @@
  *              than the chip's: program it with the next force.
  * BEFORE SLEEP until UHTLIGHT_NOTHING: uhtlight_begin_compact, then uhtlight_step until UHTLIGHT_CLOSED; the same with uhtlight_begin_order.
  *              On UHTLIGHT_ROOM: force, flush the pages that differ, checkpoint, begin again. The supply may be cut anywhere.
+ *
+ * WORST CASES
+ *
+ *   a unit             26 records, its begin and 25 steps, and 876 bytes of the log: 8 leaves with 15 records packed into a new place
+ *   recovery           25 records appended
+ *   stack, in bytes    build 1,152; recover 1,024; begin, step and list 768; range_next 256; the others 512
+ *
+ * The stack is what a call takes with its arguments, its answer and the return address. It is measured on x86-64 by tests/stack.c, which fails
+ * where a call takes more; docs/PERFORMANCE.md has the figures.
  */
 #ifndef UHTLIGHT_H
 #define UHTLIGHT_H
@@ -106,7 +117,22 @@ struct uhtlight_listed {
     bool more;      /* records in range that did not fit remain */
 };
 
-/* A buffer is two arguments: where it begins and how many bytes are lent. */
+/* A position of the range reader. It is yours to keep and to hand back, and holds no pointer. */
+struct uhtlight_place {
+    size_t root, base, entry, leaf, row;
+};
+
+struct uhtlight_reached {
+    uint8_t reply;
+    struct uhtlight_place at;
+};
+
+struct uhtlight_read {
+    bool found;        /* a record stood there: the rest is zeros where none did */
+    uint32_t key;
+    uint8_t value[10];
+    struct uhtlight_place next;
+};
 
 /* Makes a tree of the records, which ascend by key, in work and store alike, with a new log. leaf_fill 1..15 records a leaf, base_fill 1..30
  * leaves a base page. Replies 0, LENGTH, RANGE, RECORD_BAD, LARGE. */
@@ -125,7 +151,8 @@ uint8_t uhtlight_begin_compact(struct uhtlight_numbers *numbers, const uint8_t *
 /* Begins a unit that puts a leaf where it belongs in key order. Replies 0, LENGTH, LOG, OPEN, FORM, TREE, NOTHING, ROOM, NUMBER. */
 uint8_t uhtlight_begin_order(struct uhtlight_numbers *numbers, const uint8_t *work, size_t work_bytes, uint8_t *log, size_t log_bytes);
 
-/* The open unit's next step: one record, one page changed. Replies 0, LENGTH, LOG, CLOSED, FORM, MISFIT, ROOM, NUMBER. */
+/* The open unit's next step: one record, and one page changed or, at the unit's end, none.
+ * Replies 0, LENGTH, LOG, CLOSED, FORM, MISFIT, ROOM, NUMBER. */
 uint8_t uhtlight_step(struct uhtlight_numbers *numbers, uint8_t *work, size_t work_bytes, uint8_t *log, size_t log_bytes);
 
 /* Copies one work page to the store. Replies 0, LENGTH, LOG, RANGE, UNFORCED. */
@@ -135,7 +162,8 @@ uint8_t uhtlight_flush(struct uhtlight_numbers *numbers, const uint8_t *work, si
 /* The log is programmed as far as it is used. Replies 0, LENGTH, LOG. */
 uint8_t uhtlight_force(struct uhtlight_numbers *numbers, const uint8_t *log, size_t log_bytes);
 
-/* Replaces the log by one check record; clear: what was passed by as too full to pack comes again. Replies 0, LENGTH, LOG, OPEN, DIFFERS, NUMBER. */
+/* Replaces the log by one check record. Packing goes on above the largest key that it moved last; with clear it starts again at the lowest key.
+ * Replies 0, LENGTH, LOG, OPEN, DIFFERS, NUMBER. */
 uint8_t uhtlight_checkpoint(struct uhtlight_numbers *numbers, const uint8_t *work, size_t work_bytes, const uint8_t *store, size_t store_bytes,
     uint8_t *log, size_t log_bytes, bool clear);
 
@@ -147,6 +175,22 @@ struct uhtlight_found uhtlight_find(struct uhtlight_numbers *numbers, const uint
  * Replies 0, LENGTH, LOG, OPEN, FORM, TREE. */
 struct uhtlight_listed uhtlight_list(struct uhtlight_numbers *numbers, const uint8_t *work, size_t work_bytes, const uint8_t *log, size_t log_bytes,
     uint32_t low, uint32_t high, uint8_t *room, size_t room_bytes);
+
+/* The range reader gives records one after the other in key order, with no room for them all. It is lent the work pages alone, so it does not
+ * know whether a unit is open; in the midst of one the pages may be no tree.
+ *
+ *   struct uhtlight_reached start = uhtlight_range_start(work, sizeof work, 1000);
+ *   struct uhtlight_read r = uhtlight_range_next(work, sizeof work, start.at);
+ *   for (; r.found && r.key <= 2000; r = uhtlight_range_next(work, sizeof work, r.next))
+ *       show(r.key, r.value);
+ */
+
+/* Where the first record stands whose key is at least this one. Replies 0, LENGTH, FORM, TREE; a refused reader's position gives no record. */
+struct uhtlight_reached uhtlight_range_start(const uint8_t *work, size_t work_bytes, uint32_t key);
+
+/* The record at a position, and the position after it. Lend the pages as they were at the start: on others, or with a position that was made
+ * up, it gives a record that stands on some leaf page or none. */
+struct uhtlight_read uhtlight_range_next(const uint8_t *work, size_t work_bytes, struct uhtlight_place at);
 
 #ifdef __cplusplus
 }

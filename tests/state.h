@@ -17,12 +17,12 @@ static void copy(uint8_t *to, const uint8_t *from, size_t count)
         to[i] = from[i];
 }
 
-static uint8_t build(struct state *s, const uint8_t *records, size_t bytes, uint32_t leaf_fill, uint32_t base_fill)
+static inline uint8_t build(struct state *s, const uint8_t *records, size_t bytes, uint32_t leaf_fill, uint32_t base_fill)
 {
     return uhtlight_build(&s->numbers, s->work, sizeof s->work, s->store, sizeof s->store, s->log, sizeof s->log, records, bytes, leaf_fill, base_fill);
 }
 
-static struct uhtlight_recovered recover(struct state *s)
+static inline struct uhtlight_recovered recover(struct state *s)
 {
     return uhtlight_recover(&s->numbers, s->work, sizeof s->work, s->store, sizeof s->store, s->log, sizeof s->log);
 }

@@ -1,5 +1,6 @@
-//! The ten calls over lent buffers. Each runs its tests in the order that
-//! document 01 gives, and writes only after the last of them.
+//! The ten calls over lent buffers, and a walk of the range reader. Each runs
+//! its tests in the order that document 01 gives, and writes only after the
+//! last of them.
 
 use crate::bytes::{get32, page_of, page_of_mut, Numbers, LOG_BYTES, PAGES_BYTES, PAGE_COUNT};
 use crate::log::{Log, Record, CHECK_BYTES};
@@ -328,6 +329,27 @@ pub fn list(
         row.write(at);
     }
     (reply::DONE, count as u32, wanted.len() > count)
+}
+
+/// The range reader from `key` on: it is lent the work pages alone, tests them
+/// as list does and gives one record after the other. Those that fit whole go
+/// into `out`; returns the reply and their count.
+pub fn walk(work: &[u8], out: &mut [u8], key: u32) -> (u8, u32) {
+    let right = test(work.len() == PAGES_BYTES, reply::LENGTH);
+    let leaves = match right.and_then(|()| read_tree(work)) {
+        Ok((_, leaves)) => leaves,
+        Err(reply) => return (reply, 0),
+    };
+    let mut reader = leaves.iter().flat_map(|leaf| &leaf.rows);
+    let mut next = reader.find(|row| key <= row.key);
+    let mut count = 0;
+    for at in out.chunks_exact_mut(ROW_BYTES) {
+        let Some(row) = next else { break };
+        row.write(at);
+        count += 1;
+        next = reader.next();
+    }
+    (reply::DONE, count)
 }
 
 /// The first tests of find and list: 1, 2 and 9.

@@ -17,7 +17,7 @@ pub struct Fault {
     pub program: &'static Program<'static>,
 }
 
-pub const FAULTS: [Fault; 22] = [
+pub const FAULTS: [Fault; 24] = [
     named("in-repeated", &in_repeated),
     named("swap-by-pointer", &swap_by_pointer),
     named("room-for-next", &room_for_next),
@@ -38,6 +38,8 @@ pub const FAULTS: [Fault; 22] = [
     named("find-entry-strict", &find_entry_strict),
     named("list-below-high", &list_below_high),
     named("list-more-when-full", &list_more_when_full),
+    named("walk-past-key", &walk_past_key),
+    named("walk-of-open-unit", &walk_of_open_unit),
     named("build-first-key", &build_first_key),
     named("build-keeps-store", &build_keeps_store),
 ];
@@ -355,6 +357,26 @@ fn list_more_when_full(call: &Call, state: &mut State) -> Answer {
         *more |= *count > 0 && *count as usize == state.bytes.len() / ROW_BYTES;
     }
     answer
+}
+
+/// The range reader passes by the record with the key itself.
+fn walk_past_key(call: &Call, state: &mut State) -> Answer {
+    match *call {
+        Call::Walk { key } if key < u32::MAX => Call::Walk { key: key + 1 }.on(state),
+        _ => call.on(state),
+    }
+}
+
+/// The range reader looks at the log, and refuses while a unit is open.
+fn walk_of_open_unit(call: &Call, state: &mut State) -> Answer {
+    let open = Log::read(&state.log).is_some_and(|log| log.open.is_some());
+    if matches!(call, Call::Walk { .. }) && open {
+        return Answer {
+            reply: reply::OPEN,
+            values: Values::Walked(0),
+        };
+    }
+    call.on(state)
 }
 
 /// Build gives the leftmost entries the smallest record's key.

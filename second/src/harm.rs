@@ -55,7 +55,7 @@ pub fn any_call(chance: &mut Chance) -> Call {
         _ => chance.within(0, 66) as u32,
     };
     let other = chance.within(0, 66) as u32;
-    match chance.within(1, 16) {
+    match chance.within(1, 17) {
         1 => Call::Build {
             f: number,
             g: other,
@@ -70,6 +70,7 @@ pub fn any_call(chance: &mut Chance) -> Call {
             clear: number % 2 == 1,
         },
         15 => Call::Find { key: number },
+        16 => Call::Walk { key: number },
         _ => Call::List {
             low: number,
             high: other,

@@ -36,8 +36,9 @@ pub const RECORDS: u8 = 16;
 /// Build needs over 56 leaves or 7 base pages.
 pub const LARGE: u8 = 17;
 
-/// The replies of each call, in the order of its tests ("Order of tests").
-pub const ORDER: [(&str, &[u8]); 10] = [
+/// The replies of each call, in the order of its tests ("Order of tests"); a
+/// walk of the range reader has list's tests of the pages.
+pub const ORDER: [(&str, &[u8]); 11] = [
     ("build", &[1, 12, 16, 17, 0]),
     ("recover", &[1, 2, 3, 4, 5, 6, 7, 8, 0]),
     ("begin_compact", &[1, 2, 12, 9, 3, 8, 11, 6, 7, 0]),
@@ -48,6 +49,7 @@ pub const ORDER: [(&str, &[u8]); 10] = [
     ("checkpoint", &[1, 2, 9, 14, 7, 0]),
     ("find", &[1, 2, 9, 3, 15, 0]),
     ("list", &[1, 2, 9, 3, 8, 0]),
+    ("walk", &[1, 3, 8, 0]),
 ];
 
 /// A call by its name, and a reply.

@@ -237,7 +237,8 @@ impl World<'_> {
                 self.checkpoint()
             }
             81..=83 => self.find(),
-            84..=86 => self.list(),
+            84..=85 => self.list(),
+            86 => self.walk(),
             87..=89 => self.wrong_length(),
             90..=91 => self.wrong_numbers(),
             92 => {
@@ -318,6 +319,27 @@ impl World<'_> {
         })
     }
 
+    /// A walk of the range reader gives the records; with a unit open the
+    /// pages may be no tree.
+    fn walk(&mut self) -> Result<(), String> {
+        let key = self.chance.within(0, 400) as u32;
+        let room = self.chance.within(0, 200) as usize;
+        self.state.bytes = vec![0xaa; room];
+        let answer = self.call(Call::Walk { key })?;
+        if self.log()?.open.is_some() {
+            return Ok(());
+        }
+        let wanted = self.rows.iter().filter(|row| key <= row.key);
+        let wanted: Vec<u32> = wanted.map(|row| row.key).take(room / ROW_BYTES).collect();
+        let mut out = record_bytes(&wanted);
+        out.resize(room, 0xaa);
+        let values = Values::Walked(wanted.len() as u32);
+        let right = answer.reply == reply::DONE && answer.values == values;
+        ensure(right && self.state.bytes == out, || {
+            format!("walk from {key} gave {answer:?}")
+        })
+    }
+
     /// Any call with any arguments.
     fn any_call(&mut self) -> Call {
         let number = match self.chance.within(1, 3) {
@@ -325,7 +347,7 @@ impl World<'_> {
             _ => self.chance.within(0, 70) as u32,
         };
         let other = self.chance.within(0, 70) as u32;
-        match self.chance.within(1, 10) {
+        match self.chance.within(1, 11) {
             1 => Call::Build {
                 f: number,
                 g: other,
@@ -340,6 +362,7 @@ impl World<'_> {
                 clear: number % 2 == 1,
             },
             9 => Call::Find { key: number },
+            10 => Call::Walk { key: number },
             _ => Call::List {
                 low: number,
                 high: other,
@@ -356,7 +379,7 @@ impl World<'_> {
             match self.chance.within(1, 3) {
                 1 if lent.work => break &mut self.state.work,
                 2 if lent.store => break &mut self.state.store,
-                3 => break &mut self.state.log,
+                3 if lent.log => break &mut self.state.log,
                 _ => {}
             }
         };
@@ -376,10 +399,10 @@ impl World<'_> {
     }
 
     /// Lends numbers that do not fit the log: refused as 2, but for the two
-    /// calls that set them.
+    /// calls that set them and the one that is not lent any.
     fn wrong_numbers(&mut self) -> Result<(), String> {
         let call = self.any_call();
-        if matches!(call, Call::Build { .. } | Call::Recover) {
+        if matches!(call, Call::Build { .. } | Call::Recover) || !call.lent().log {
             return Ok(());
         }
         let kept = self.state.numbers;

@@ -6,7 +6,7 @@ use crate::calls;
 use crate::log::{Begin, Log, Record, Type, CHECK_BYTES};
 use crate::page::{Body, Entry, Page, Row, MOST_ROWS, ROW_BYTES};
 
-/// A call with its arguments.
+/// A call with its arguments; `Walk` is the range reader, walked from a key on.
 #[derive(Clone, Copy, PartialEq, Eq, Debug)]
 pub enum Call {
     Build { f: u32, g: u32 },
@@ -19,6 +19,7 @@ pub enum Call {
     Checkpoint { clear: bool },
     Find { key: u32 },
     List { low: u32, high: u32 },
+    Walk { key: u32 },
 }
 
 /// What a call returns beside its reply.
@@ -28,6 +29,7 @@ pub enum Values {
     Count(u32),
     Value([u8; 10]),
     Listed(u32, bool),
+    Walked(u32),
 }
 
 #[derive(Clone, PartialEq, Eq, Debug)]
@@ -36,7 +38,8 @@ pub struct Answer {
     pub values: Values,
 }
 
-/// The buffers that a call is lent. `bytes` is build's records or list's out.
+/// The buffers that a call is lent. `bytes` is build's records, or the room of
+/// list and of a walk.
 #[derive(Clone, PartialEq, Eq, Debug)]
 pub struct State {
     pub numbers: Numbers,
@@ -51,6 +54,7 @@ pub struct State {
 pub struct Lent {
     pub work: bool,
     pub store: bool,
+    pub log: bool,
     pub bytes: bool,
 }
 
@@ -67,10 +71,11 @@ impl Call {
             Call::Checkpoint { .. } => "checkpoint",
             Call::Find { .. } => "find",
             Call::List { .. } => "list",
+            Call::Walk { .. } => "walk",
         }
     }
 
-    /// The buffers lent beside the log, which every call is lent.
+    /// The buffers lent; the numbers go along wherever the log does.
     pub fn lent(&self) -> Lent {
         let store = matches!(
             self,
@@ -79,8 +84,14 @@ impl Call {
         Lent {
             work: !matches!(self, Call::Force),
             store,
-            bytes: matches!(self, Call::Build { .. } | Call::List { .. }),
+            log: !matches!(self, Call::Walk { .. }),
+            bytes: matches!(self, Call::Build { .. }) || self.has_room(),
         }
+    }
+
+    /// Whether the call writes records into a room.
+    pub fn has_room(&self) -> bool {
+        matches!(self, Call::List { .. } | Call::Walk { .. })
     }
 
     pub fn on(&self, state: &mut State) -> Answer {
@@ -118,6 +129,11 @@ impl Call {
             Call::List { low, high } => {
                 let (reply, count, more) = calls::list(numbers, work, log, bytes, low, high);
                 let values = Values::Listed(count, more);
+                Answer { reply, values }
+            }
+            Call::Walk { key } => {
+                let (reply, count) = calls::walk(work, bytes, key);
+                let values = Values::Walked(count);
                 Answer { reply, values }
             }
         }

@@ -49,6 +49,45 @@ fn a_list_writes_its_count_and_its_room() {
 }
 
 #[test]
+fn a_walk_writes_its_count_and_its_room() {
+    let record = |key: u8| [&[b'r', b'c', key, 0, 0, 0][..], &[key; 10]].concat();
+    // From 20 on with room for three records and a byte: two are there.
+    let walked = answer(&after_build(b"W\x14\0\0\0\x31\0\0\0"));
+    let two = [
+        &[0, 0, 2, 0, 0, 0][..],
+        &record(20),
+        &record(30),
+        &[170; 17],
+    ]
+    .concat();
+    assert_eq!(walked, two);
+    // From 11 on with room for one record and a half.
+    let walked = answer(&after_build(b"W\x0b\0\0\0\x18\0\0\0"));
+    let one = [&[0, 0, 1, 0, 0, 0][..], &record(20), &[170; 8]].concat();
+    assert_eq!(walked, one);
+    // None behind the last, and none where there is no room.
+    let none = answer(&after_build(b"W\x1f\0\0\0\x02\0\0\0W\0\0\0\0\0\0\0\0"));
+    assert_eq!(none, [0, 0, 0, 0, 0, 0, 170, 170, 0, 0, 0, 0, 0]);
+}
+
+#[test]
+fn a_walk_is_lent_the_work_pages_alone() {
+    let script = b"z\xff\x3f\0\0\0\x40\0\0\0\x20\0\0W\0\0\0\0\x01\0\0\0";
+    let refused = answer(&after_build(script));
+    assert_eq!(refused, [0, 1, 0, 0, 0, 0, 170]);
+    // Neither store nor log, nor the numbers: with these all wrong it walks.
+    let script = b"z\0\x40\0\0\0\0\0\0\0\0\0\0n\x01\0\0\0\x02\0\0\0W\x1e\0\0\0\x11\0\0\0";
+    let walked = answer(&after_build(script));
+    assert_eq!(walked[..6], [0, 0, 1, 0, 0, 0]);
+    // Pages of zeros break page form; a unit's LO leaves no tree.
+    assert_eq!(answer(b"W\0\0\0\0\0\0\0\0"), [3, 0, 0, 0, 0]);
+    let open = answer(&after_build(
+        b"C\x04\0\0\0W\0\0\0\0\0\0\0\0SW\0\0\0\0\0\0\0\0",
+    ));
+    assert_eq!(open, [0, 0, 0, 0, 0, 0, 0, 0, 8, 0, 0, 0, 0]);
+}
+
+#[test]
 fn units_and_a_recovery_write_replies_and_a_count() {
     let said = answer(&after_build(b"C\x04\0\0\0SFP\x09\0\0\0RK\0OS"));
     // Build, begin, step, force, flush; recovery appends three records, so
@@ -81,7 +120,7 @@ fn a_dump_has_the_lent_lengths() {
 
 #[test]
 fn a_bad_command_writes_255_and_ends_the_service() {
-    let bad: [&[u8]; 12] = [
+    let bad: [&[u8]; 14] = [
         b"x",
         b"\0",
         b"G",
@@ -93,6 +132,8 @@ fn a_bad_command_writes_255_and_ends_the_service() {
         b"z\0\x40\0\0\x02\x40\0\0\0\x20\0\0DD",
         b"z\0\x40\0\0\0\x40\0\0\x02\x20\0\0DD",
         b"L\0\0\0\0\0\0\0\0\x01\x40\0\0DD",
+        b"W\0\0\0\0\x01\x40\0\0DD",
+        b"W\0\0\0\0\0\0\0",
         b"B\x01\0\0\0\x01\0\0\0\x10\0\0\0rc",
     ];
     for script in bad {
@@ -132,6 +173,7 @@ fn commands_read_back_as_they_were_written() {
         plain(Call::Checkpoint { clear: true }),
         plain(Call::Find { key: u32::MAX }),
         Command::Call(Call::List { low: 1, high: 0 }, vec![170; 3]),
+        Command::Call(Call::Walk { key: 7 }, vec![170; 5]),
         Command::Dump,
     ];
     let script: Vec<u8> = commands.iter().flat_map(Command::write).collect();

@@ -23,6 +23,7 @@ const CHECKPOINT: Call = Call::Checkpoint { clear: false };
 const BUILD: Call = Call::Build { f: 15, g: 30 };
 const ALL: Call = Call::List { low: 0, high: LAST };
 const FIND: Call = Call::Find { key: 10 };
+const WALK: Call = Call::Walk { key: 10 };
 
 type Pairs = BTreeSet<Pair>;
 
@@ -45,7 +46,7 @@ fn make(call: Call, state: &State, seed: &str) -> u8 {
         assert!(after == same, "{seed}: {call:?} gave {answer:?}, changed");
         let none = match answer.values {
             Values::Nothing => true,
-            Values::Count(count) => count == 0,
+            Values::Count(count) | Values::Walked(count) => count == 0,
             Values::Value(value) => value == [0; 10],
             Values::Listed(count, more) => count == 0 && !more,
         };
@@ -247,6 +248,14 @@ fn by_hand() -> Vec<(Call, u8, State)> {
         (ALL, 9, change(&open, bad_page)),
         (ALL, 3, change(&change(&one, bad_page), bad_tree)),
         (ALL, 8, change(&one, bad_tree)),
+        (WALK, 0, change(&change(&open, bad_log), bad_length)),
+        (
+            WALK,
+            1,
+            change(&change(&one, bad_page), |s| s.work.truncate(1)),
+        ),
+        (WALK, 3, change(&change(&one, bad_page), bad_tree)),
+        (WALK, 8, change(&one, bad_tree)),
         (TOO_FULL, 2, change(&one, bad_log)),
         (TOO_FULL, 12, change(&open, bad_page)),
     ];

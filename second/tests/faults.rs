@@ -10,14 +10,15 @@ use std::process::{Command, Output};
 
 /// Calls to make: those of the scripts made by hand, and some hundreds more.
 const CALLS: &str = "2800";
-/// The faults that build, find and list alone can show.
-const READING_FAULTS: [&str; 8] = [
+/// The faults that build, find, list and the range reader alone can show.
+const READING_FAULTS: [&str; 9] = [
     "longer-lent",
     "tail-unread",
     "find-reads-all",
     "find-entry-strict",
     "list-below-high",
     "list-more-when-full",
+    "walk-past-key",
     "build-first-key",
     "build-keeps-store",
 ];

@@ -147,7 +147,8 @@ fn every_label_and_every_pair_is_there() {
         let reply = case.call.on(&mut case.state.clone()).reply;
         *pairs.entry((case.call.name(), reply)).or_default() += 1;
     }
-    for (name, reply) in reply::pairs() {
+    // The vectors are of the ten calls: the range reader has none.
+    for (name, reply) in reply::pairs().filter(|(name, _)| *name != "walk") {
         let times = pairs.get(&(name, reply)).copied().unwrap_or(0);
         assert!(times >= 2, "{name} {reply}: {times} vectors");
     }

@@ -12,11 +12,12 @@
 //   K       clear 1 (0 or 1): checkpoint
 //   G       key 4: find
 //   L       low 4, high 4, room 4 (at most 16,384): list into so many bytes, each 170 before
+//   W       key 4, room 4 (at most 16,384): the range reader from that key on into so many bytes, each 170 before: records while they fit
 //   D       dump
 //
-// A call writes its reply, 1 byte; find then the value, 10; list the count, 4, whether more remain, 1, and the room; recover the count, 4.
-// A dump is work, store and log at their lent lengths, used 4 and forced 4. The end of input between commands ends the program. A command
-// that is unknown, cut short or out of these limits writes one byte 255 and ends it.
+// A call writes its reply, 1 byte; find then the value, 10; list the count, 4, whether more remain, 1, and the room; recover the count, 4; the
+// range reader the count, 4, and the room. A dump is work, store and log at their lent lengths, used 4 and forced 4. The end of input between
+// commands ends the program. A command that is unknown, cut short or out of these limits writes one byte 255 and ends it.
 mod build;
 mod change;
 mod input;
@@ -43,6 +44,7 @@ fn turn(at: State, work: &mut [u8], store: &mut [u8], log: &mut [u8], room: &mut
         b'B' => build::build(at, work, store, log, room),
         b'G' => reading::find(at, work, log),
         b'L' => reading::list(at, work, log, room),
+        b'W' => reading::walk(at, work, room),
         _ => change::turn(at, letter, work, store, log),
     }
 }

@@ -65,6 +65,16 @@ pub fn listed(at: State, a: ListAnswer, room: &[u8]) -> State {
     state::with_numbers(at, numbers)
 }
 
+// Writes the range reader's reply, the count of its records, and the room.
+pub fn walked(at: State, reply: u8, count: u32, room: &[u8]) -> State {
+    let mut bytes = [0u8; 5];
+    bytes[0] = reply;
+    field::put4(&mut bytes, 1, count);
+    io::write_all(libc::STDOUT_FILENO, &bytes);
+    io::write_all(libc::STDOUT_FILENO, room);
+    at
+}
+
 // Writes the numbers.
 pub fn numbers(at: State) {
     let n = at.numbers;

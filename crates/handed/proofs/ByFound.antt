@@ -7,7 +7,7 @@ use Rattle.answering.proofs.looking.FindAnswer as A
 use Rattle.answering.proofs.looking.FindAnswer.Laws as A′
 use Rattle.tree.proofs.find.Found as X
 use Rattle.tree.proofs.find.Found.Laws as X′
-use Rattle.lent.proofs.OfFound.{ofFound}
+use Rattle.uhtlight.proofs.OfFound.{ofFound}
 use Rattle.handed.proofs.Lending.{Made}
 
 abbrev pub byFound : Made ofFound

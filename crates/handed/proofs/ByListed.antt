@@ -7,7 +7,7 @@ use Rattle.answering.proofs.listing.ListAnswer as A
 use Rattle.answering.proofs.listing.ListAnswer.Laws as A′
 use Rattle.answering.proofs.listing.Listed as X
 use Rattle.answering.proofs.listing.Listed.Laws as X′
-use Rattle.lent.proofs.OfListed.{ofListed}
+use Rattle.uhtlight.proofs.OfListed.{ofListed}
 use Rattle.handed.proofs.Lending.{Made}
 
 abbrev pub byListed : Made ofListed

@@ -7,7 +7,7 @@ use Rattle.recovering.proofs.RecoverAnswer as A
 use Rattle.recovering.proofs.RecoverAnswer.Laws as A′
 use Rattle.recovering.proofs.Recovered as X
 use Rattle.recovering.proofs.Recovered.Laws as X′
-use Rattle.lent.proofs.OfRecovered.{ofRecovered}
+use Rattle.uhtlight.proofs.OfRecovered.{ofRecovered}
 use Rattle.handed.proofs.Lending.{Made}
 
 abbrev pub byRecovered : Made ofRecovered

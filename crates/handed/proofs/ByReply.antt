@@ -7,7 +7,7 @@ use denote.Steps.{only}
 use denote.Struct.Laws as SL
 use Rattle.store.proofs.known.Answer as A
 use Rattle.store.proofs.known.Answer.Laws as A′
-use Rattle.lent.proofs.OfReply.{ofReply}
+use Rattle.uhtlight.proofs.OfReply.{ofReply}
 use Rattle.handed.proofs.Lending.{Made}
 
 abbrev pub byReply : Made ofReply

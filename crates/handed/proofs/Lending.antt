@@ -45,7 +45,7 @@ use Rattle.walks.proofs.Beside.{Beside, valuesOf, behind, ownLocals, loanLocals
 use Rattle.store.specs.declared.known.Numbers.{Numbers}
 use Rattle.store.proofs.known.Numbers as N
 use Rattle.store.proofs.known.Numbers.Laws as N′
-use Rattle.lent.proofs.Outer.{Answered, Typed, answerTy}
+use Rattle.uhtlight.proofs.Outer.{Answered, Typed, answerTy}
 
 -- ---- the lent record
 pub record Loan : Type 0 where

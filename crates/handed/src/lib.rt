@@ -1,4 +1,4 @@
-// The lent calls with the numbers by value: each call lends the numbers that it is handed to its namesake in `lent` and answers with what came
+// The lent calls with the numbers by value: each call lends the numbers that it is handed to its namesake in `uhtlight` and answers with what came
 // back. Code that lends a record is proved by hand; it stands here, once, so that the service bench calls these as it would call `store`, and
 // through them the very calls that users link. Each contract is that of the same call in `store`.
 ghost use mathlib.Core.Path.{_≡_};
@@ -25,7 +25,7 @@ pub fn build(
         ≡ build f g (lent (n .used) (n .forced) (now (work .entry)) (now (store .entry)) (now (log .entry)) (now (records .entry))) ⌝ }
 {
     let mut m = n;
-    let reply = lent::uhtlight_build(&mut m, work, store, log, records, f, g);
+    let reply = uhtlight::uhtlight_build(&mut m, work, store, log, records, f, g);
     let numbers = m;
     Answer { reply, numbers }
 }
@@ -36,7 +36,7 @@ pub fn recover(n: Numbers, work: &mut [u8], store: &[u8], log: &mut [u8]) -> Rec
         ≡ recover (lent (n .used) (n .forced) (now (work .entry)) (now (store .entry)) (now (log .entry)) []) ⌝ }
 {
     let mut m = n;
-    let recovered = lent::uhtlight_recover(&mut m, work, store, log);
+    let recovered = uhtlight::uhtlight_recover(&mut m, work, store, log);
     let numbers = m;
     RecoverAnswer { recovered, numbers }
 }
@@ -47,7 +47,7 @@ pub fn begin_compact(n: Numbers, work: &[u8], log: &mut [u8], fill: u32) -> Answ
         ≡ beginCompact fill (lent (n .used) (n .forced) (now (work .entry)) [] (now (log .entry)) []) ⌝ }
 {
     let mut m = n;
-    let reply = lent::uhtlight_begin_compact(&mut m, work, log, fill);
+    let reply = uhtlight::uhtlight_begin_compact(&mut m, work, log, fill);
     let numbers = m;
     Answer { reply, numbers }
 }
@@ -58,7 +58,7 @@ pub fn begin_order(n: Numbers, work: &[u8], log: &mut [u8]) -> Answer
         ≡ beginOrder (lent (n .used) (n .forced) (now (work .entry)) [] (now (log .entry)) []) ⌝ }
 {
     let mut m = n;
-    let reply = lent::uhtlight_begin_order(&mut m, work, log);
+    let reply = uhtlight::uhtlight_begin_order(&mut m, work, log);
     let numbers = m;
     Answer { reply, numbers }
 }
@@ -69,7 +69,7 @@ pub fn step(n: Numbers, work: &mut [u8], log: &mut [u8]) -> Answer
         ≡ step (lent (n .used) (n .forced) (now (work .entry)) [] (now (log .entry)) []) ⌝ }
 {
     let mut m = n;
-    let reply = lent::uhtlight_step(&mut m, work, log);
+    let reply = uhtlight::uhtlight_step(&mut m, work, log);
     let numbers = m;
     Answer { reply, numbers }
 }
@@ -80,7 +80,7 @@ pub fn flush(n: Numbers, work: &[u8], store: &mut [u8], log: &[u8], p: u32) -> A
         ≡ flush p (lent (n .used) (n .forced) (now (work .entry)) (now (store .entry)) (now (log .entry)) []) ⌝ }
 {
     let mut m = n;
-    let reply = lent::uhtlight_flush(&mut m, work, store, log, p);
+    let reply = uhtlight::uhtlight_flush(&mut m, work, store, log, p);
     let numbers = m;
     Answer { reply, numbers }
 }
@@ -91,7 +91,7 @@ pub fn force(n: Numbers, log: &[u8]) -> Answer
         ≡ force (lent (n .used) (n .forced) [] [] (now (log .entry)) []) ⌝ }
 {
     let mut m = n;
-    let reply = lent::uhtlight_force(&mut m, log);
+    let reply = uhtlight::uhtlight_force(&mut m, log);
     let numbers = m;
     Answer { reply, numbers }
 }
@@ -102,7 +102,7 @@ pub fn checkpoint(n: Numbers, work: &[u8], store: &[u8], log: &mut [u8], clear: 
         ≡ checkpoint clear (lent (n .used) (n .forced) (now (work .entry)) (now (store .entry)) (now (log .entry)) []) ⌝ }
 {
     let mut m = n;
-    let reply = lent::uhtlight_checkpoint(&mut m, work, store, log, clear);
+    let reply = uhtlight::uhtlight_checkpoint(&mut m, work, store, log, clear);
     let numbers = m;
     Answer { reply, numbers }
 }
@@ -113,7 +113,7 @@ pub fn find(n: Numbers, work: &[u8], log: &[u8], key: u32) -> FindAnswer
         ≡ find key (lent (n .used) (n .forced) (now (work .entry)) [] (now (log .entry)) []) ⌝ }
 {
     let mut m = n;
-    let found = lent::uhtlight_find(&mut m, work, log, key);
+    let found = uhtlight::uhtlight_find(&mut m, work, log, key);
     let numbers = m;
     FindAnswer { found, numbers }
 }
@@ -124,7 +124,7 @@ pub fn list(n: Numbers, work: &[u8], log: &[u8], low: u32, high: u32, out: &mut 
         ≡ list low high (lent (n .used) (n .forced) (now (work .entry)) [] (now (log .entry)) (now (out .entry))) ⌝ }
 {
     let mut m = n;
-    let listed = lent::uhtlight_list(&mut m, work, log, low, high, out);
+    let listed = uhtlight::uhtlight_list(&mut m, work, log, low, high, out);
     let numbers = m;
     ListAnswer { listed, numbers }
 }

@@ -7,8 +7,8 @@ use mathlib.Core.Path.{_≡_, sym, ap, _∙_}
 use mathlib.Core.Bool.{true}
 use mathlib.Core.List.{List, [], _∷_}
 use lib.ListN.{length, getD}
-use borrow.Author.Tests.{eqb-true, lt-ltb, le-ltb}
-use Rattle.field.proofs.Test.{all-head, all-tail, both-1, both-2, pick-true, pick-false}
+use borrow.Author.Tests.{eqb-true}
+use Rattle.field.proofs.Test.{all-head, all-tail, both-1, both-2}
 use Rattle.page.specs.Page.{keyOf, toPage, count, rows}
 use Rattle.page.specs.Pages.{page, pages}
 use Rattle.page.proofs.Rows.{length-rows}
@@ -18,7 +18,7 @@ use Rattle.tree.specs.Walk.{Spot, Over}
 use Rattle.tree.specs.Reader.{Sound}
 use Rattle.tree.proofs.Sound.{root-entries}
 use Rattle.tree.proofs.Onward.{root-over, leaf-spot}
-use Rattle.range.specs.Reading.{place, theEnd, entryTo, settled, rowsBelow, firstFrom}
+use Rattle.range.specs.Reading.{place, theEnd, entryTo, settled, rowsBelow, belowBase, belowRoot, firstFrom}
 use Rattle.range.proofs.Passed.{below-most, below-at, below-some}
 
 -- ---- the clauses of the well-formed tree
@@ -52,13 +52,25 @@ head-key w s i b h e small =
 
 -- ---- the way down
 
+root-down : (key : ℕ) (w : List ℕ) (o : ℕ) → 0 < o → let b : ℕ = entryTo 0 (o - 1) w in
+    belowRoot key w o ≡ belowBase key w o b (rowsBelow (key + 1) (rows 8 (page b w)))
+unfolding belowRoot
+root-down key w zero h = absurd (not-suc-le-zero h)
+root-down key w (suc o) h = let e : suc o - 1 ≡ o = omega arith in rw e
+
+base-down : (key : ℕ) (w : List ℕ) (o b i : ℕ) → 0 < i → let p : ℕ = entryTo b (i - 1) w in
+    belowBase key w o b i ≡ settled (place o b i p (rowsBelow key (rows 16 (page p w)))) w
+unfolding belowBase
+base-down key w o b zero h = absurd (not-suc-le-zero h)
+base-down key w o b (suc i) h = let e : suc i - 1 ≡ i = omega arith in rw e
+
 module _ (w : List ℕ) (s : Sound w) (key o : ℕ) (eo : o ≡ rowsBelow (key + 1) (rows 8 (page 0 w))) where
   pub top-few : o ≤ count (page 0 w)
   top-few = omega (arith, below-most (key + 1) (rows 8 (page 0 w)), length-rows 8 (page 0 w))
 
   pub seek-none : o ≡ 0 → firstFrom key w ≡ theEnd
-  unfolding firstFrom
-  seek-none z = pick-false _ _ _ (le-ltb 0 (rowsBelow (key + 1) (rows 8 (page 0 w))) (omega arith))
+  unfolding firstFrom belowRoot
+  seek-none z = ap (belowRoot key w) (sym eo ∙ z)
 
   module _ (some : 0 < o) (b : ℕ) (eb : b ≡ entryTo 0 (o - 1) w) where
     pub top-over : Over w b
@@ -85,4 +97,8 @@ module _ (w : List ℕ) (s : Sound w) (key o : ℕ) (eo : o ≡ rowsBelow (key +
 
         pub seek-at : (r : ℕ) → r ≡ rowsBelow key (rows 16 (page p w)) → firstFrom key w ≡ settled (place o b i p r) w
         unfolding firstFrom
-        seek-at r er = pick-true _ _ _ (lt-ltb 0 (rowsBelow (key + 1) (rows 8 (page 0 w))) (omega arith)) ∙ sym (rw (er, ep, ei, eb, eo))
+        seek-at r er =
+            ap (belowRoot key w) (sym eo)
+            ∙ (root-down key w o some
+            ∙ (ap (λ (q : ℕ). belowBase key w o q (rowsBelow (key + 1) (rows 8 (page q w)))) (sym eb)
+            ∙ (ap (belowBase key w o b) (sym ei) ∙ (base-down key w o b i base-some ∙ sym (rw (er, ep))))))

@@ -1,6 +1,6 @@
 -- Where a range reader starts, and what a step gives, of any pages w and any position. A position is `tree`'s: how many entries of the root
 -- and of the base page are passed, and the record on the leaf page. Assumes nothing.
-use Prim.Native.Nat.{ℕ, suc, _+_, _-_}
+use Prim.Native.Nat.{ℕ, zero, suc, _+_}
 use mathlib.Core.Bool.{Bool, true, false}
 use mathlib.Core.List.{List, [], _∷_}
 use lib.ListN.{length, getD}
@@ -79,15 +79,20 @@ unfoldable pub rowsBelow : (k : ℕ) → List (List ℕ) → ℕ
 rowsBelow k [] = 0
 rowsBelow k (r ∷ rs) = let rest = rowsBelow k rs in pick (ltb (keyOf r) k) (suc rest) 0
 
--- the first record whose key is at least the wanted one: the last entry whose key isn't above that leads down, in the root and then in the
--- base page, and on the leaf page the records below it are passed
+-- the first record from the key on that stands below the last of the i entries passed on base page b, o entries of the root being passed: the
+-- records below the key are passed on its leaf page
+unfoldable pub belowBase : (key : ℕ) (w : List ℕ) (o b i : ℕ) → Place
+belowBase key w o b zero = theEnd
+belowBase key w o b (suc i) = let p : ℕ = entryTo b i w in settled (place o b (suc i) p (rowsBelow key (records (page p w)))) w
+
+-- the same below the last of the o entries of the root: its last entry whose key isn't above the wanted one leads down
+unfoldable pub belowRoot : (key : ℕ) (w : List ℕ) (o : ℕ) → Place
+belowRoot key w zero = theEnd
+belowRoot key w (suc o) = let b : ℕ = entryTo 0 o w in belowBase key w (suc o) b (rowsBelow (key + 1) (entries (page b w)))
+
+-- the first record whose key is at least the wanted one: below the last entry of the root whose key isn't above that
 unfoldable pub firstFrom : (key : ℕ) (w : List ℕ) → Place
-firstFrom key w =
-    let o : ℕ = rowsBelow (key + 1) (entries (page 0 w)) in
-    let b : ℕ = entryTo 0 (o - 1) w in
-    let i : ℕ = rowsBelow (key + 1) (entries (page b w)) in
-    let p : ℕ = entryTo b (i - 1) w in
-    pick (ltb 0 o) (settled (place o b i p (rowsBelow key (records (page p w)))) w) theEnd
+firstFrom key w = belowRoot key w (rowsBelow (key + 1) (entries (page 0 w)))
 
 abbrev pub reached : (reply : ℕ) (at : Place) → Reached
 reached r at = record { reply = r; at = at }

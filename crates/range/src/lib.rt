@@ -4,6 +4,7 @@
 // nothing outside the pages.
 ghost use mathlib.Core.Path.{_≡_};
 ghost use Rattle.range.specs.Reading.{startFrom, nextFrom};
+use crate::steps::Reached;
 use crate::steps::Step;
 use tree::walk::Place;
 
@@ -37,10 +38,25 @@ pub fn advance<'s, 'a>(r: &'s mut RangeReader<'a>) -> Step
     s
 }
 
-// The first record whose key is at least this one.
-pub fn first_from(pages: &[u8], key: u32) -> Step
-    ensures found { λ s. ⌜ s ≡ nextFrom (now (pages .entry)) (startFrom (now (pages .entry)) key .at) ⌝ }
+// Where a reader of these pages starts, as numbers that a caller can keep: `start`, taken apart.
+pub fn start_from(pages: &[u8], key: u32) -> Reached
+    ensures started { λ s. ⌜ s ≡ startFrom (now (pages .entry)) key ⌝ }
 {
-    let mut r = start(pages, key);
+    let r = start(pages, key);
+    Reached {
+        reply: r.reply,
+        at: r.at,
+    }
+}
+
+// The record at a kept position and the position after it: a reader of the pages lent again goes on from there.
+pub fn next_from(pages: &[u8], at: Place) -> Step
+    ensures found { λ s. ⌜ s ≡ nextFrom (now (pages .entry)) at ⌝ }
+{
+    let mut r = RangeReader {
+        pages: pages,
+        reply: 0,
+        at: at,
+    };
     advance(&mut r)
 }

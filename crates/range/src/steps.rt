@@ -13,12 +13,14 @@ use tree::walk::Place;
 use tree::well;
 
 // Where a reader starts: list's reply of these pages, and the position, which is the end where the pages are refused.
+#[repr(C)]
 pub struct Reached {
     pub reply: u8,
     pub at: Place,
 }
 
 // What a step gives: whether a record was there, its key and value, and the position after it.
+#[repr(C)]
 pub struct Step {
     pub found: bool,
     pub key: u32,

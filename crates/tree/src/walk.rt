@@ -10,6 +10,7 @@ ghost use Rattle.tree.specs.Reader.{Sound, fromRoot, behind, toCome, Sta
 use crate::well;
 
 // A position: how many entries of the root and of the base page are passed, and the record on the leaf page. Leaf page 0: none is left.
+#[repr(C)]
 pub struct Place {
     pub root: usize,
     pub base: usize,

@@ -12,6 +12,7 @@
 //! | `R`, `O`, `S`, `F`, `D` | none: recover, begin order, step, force, dump |
 //! | `C`, `P`, `K`, `G` | fill 4; page 4; clear 1; key 4 |
 //! | `L` | low 4, high 4, room 4 |
+//! | `W` | key 4, room 4: a walk of the range reader |
 //!
 //! A command that is unknown, cut short or out of its limits ends a script.
 
@@ -25,9 +26,9 @@ use crate::bytes::{Numbers, LOG_BYTES, PAGES_BYTES};
 use crate::state::{Call, State};
 use std::io::Read;
 
-/// Most bytes of build's records, and of list's room.
+/// Most bytes of build's records, and of a room.
 pub const MOST_BYTES: usize = 16_384;
-/// What list's room is filled with before the call.
+/// What a room is filled with before the call.
 pub const ROOM_FILL: u8 = 170;
 
 /// The lengths that the buffers are lent with, each at most one above the
@@ -68,7 +69,7 @@ pub enum Command {
     Log(Vec<u8>),
     Numbers(Numbers),
     Lengths(Lengths),
-    /// A call with build's records, or with list's room as it is before.
+    /// A call with build's records, or with its room as it is before.
     Call(Call, Vec<u8>),
     Dump,
 }
@@ -138,6 +139,11 @@ impl Command {
                 let room = vec![ROOM_FILL; within_most(room)?];
                 Command::Call(Call::List { low, high }, room)
             }
+            b'W' => {
+                let [key, room] = take_numbers(input)?;
+                let room = vec![ROOM_FILL; within_most(room)?];
+                Command::Call(Call::Walk { key }, room)
+            }
             b'D' => Command::Dump,
             _ => return None,
         })
@@ -172,6 +178,7 @@ fn write_call(call: &Call, bytes: &[u8]) -> Vec<u8> {
         Call::Checkpoint { clear } => written(b'K', &[], &[clear as u8]),
         Call::Find { key } => written(b'G', &[key], &[]),
         Call::List { low, high } => written(b'L', &[low, high, length], &[]),
+        Call::Walk { key } => written(b'W', &[key, length], &[]),
     }
 }
 

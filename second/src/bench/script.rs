@@ -54,22 +54,22 @@ impl Script {
     }
 
     /// Makes the call on `state`, and writes it so that the bench makes it on
-    /// the same. List's room is filled anew, as the bench does it; a byte lent
-    /// past a buffer's right length must be zero.
+    /// the same. A room is filled anew, as the bench does it; a byte lent past
+    /// a buffer's right length must be zero.
     pub fn call(&mut self, call: &Call, state: &mut State) -> Answer {
         self.bring(state);
         let kept = std::mem::take(&mut state.bytes);
         let bytes = match call {
             Call::Build { .. } => kept.clone(),
-            Call::List { .. } => vec![ROOM_FILL; kept.len()],
+            call if call.has_room() => vec![ROOM_FILL; kept.len()],
             _ => Vec::new(),
         };
         let command = Command::Call(*call, bytes.clone());
         self.bytes.extend(command.write());
         let answer = self.service.call(call, bytes);
         state.clone_from(self.service.state());
-        let listed = matches!(call, Call::List { .. }) && answer.reply == reply::DONE;
-        if !listed {
+        let written = call.has_room() && answer.reply == reply::DONE;
+        if !written {
             state.bytes = kept;
         }
         answer

@@ -59,7 +59,7 @@ impl<'a> Service<'a> {
         ]
     }
 
-    /// Makes one call; `bytes` are build's records or list's room.
+    /// Makes one call; `bytes` are build's records or the call's room.
     pub fn call(&mut self, call: &Call, bytes: Vec<u8>) -> Answer {
         self.state.bytes = bytes;
         (self.program)(call, &mut self.state)
@@ -110,6 +110,10 @@ fn write_answer(answer: &Answer, room: &[u8], out: &mut Vec<u8>) {
         Values::Listed(count, more) => {
             out.extend(count.to_le_bytes());
             out.push(more as u8);
+            out.extend(room);
+        }
+        Values::Walked(count) => {
+            out.extend(count.to_le_bytes());
             out.extend(room);
         }
     }

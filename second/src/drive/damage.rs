@@ -2,7 +2,8 @@
 //!
 //! 1. all vectors, a dump after each: every pair of call and reply, every
 //!    field of every kind of record and of page broken by itself, the order
-//!    of two tests that both fail;
+//!    of two tests that both fail; where the call is a list, a walk of the
+//!    range reader from its lower bound on too;
 //! 2. at random: a small state after some calls, then something harmed (a
 //!    bit, a byte, a field, rows or records swapped, lost, doubled or cut,
 //!    zero fields, numbers, garbage after the end, lengths) and any calls on
@@ -13,7 +14,7 @@ use crate::bench::Script;
 use crate::chance::Chance;
 use crate::harm::{any_call, harm, random_state};
 use crate::reply;
-use crate::state::record_bytes;
+use crate::state::{record_bytes, Call};
 use crate::vectors::{cases, Case};
 
 pub fn scripts(reading: bool) -> Vec<Made> {
@@ -24,6 +25,9 @@ pub fn scripts(reading: bool) -> Vec<Made> {
         let script = parts.next();
         script.call(&case.call, &mut case.state.clone());
         script.dump();
+        if let Call::List { low: key, .. } = case.call {
+            script.call(&Call::Walk { key }, &mut case.state.clone());
+        }
     }
     numbered("vectors", parts.close())
 }

@@ -30,7 +30,8 @@ fn accepted() -> Vec<(Call, State)> {
         (Call::Force, built.clone()),
         (Call::Checkpoint { clear: true }, built.clone()),
         (Call::Find { key: 40 }, built),
-        (all, lent),
+        (all, lent.clone()),
+        (Call::Walk { key: 20 }, lent),
     ]
 }
 

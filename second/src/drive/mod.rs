@@ -5,8 +5,8 @@
 //! A kind of scripts is named after the trouble it looks for, and its plan
 //! stands at the top of its file. Rows, lengths, bad scripts, and the cuts and
 //! the damage made by hand are always the same; the random kinds go on until
-//! the wanted number of calls is made. For a program that has build,
-//! find and list alone, no other call stands in a script.
+//! the wanted number of calls is made. For a program that has build, find,
+//! list and the range reader alone, no other call stands in a script.
 
 mod compare;
 mod counts;
@@ -32,7 +32,7 @@ use std::{fs, io, thread};
 /// What to drive, and how much.
 #[derive(Clone, Debug)]
 pub struct Plan {
-    /// Build, find and list alone.
+    /// Build, find, list and the range reader alone.
     pub reading: bool,
     pub calls: u64,
     pub seed: u64,
@@ -107,7 +107,7 @@ fn shares(reading: bool) -> &'static [(Maker, u64)] {
 
 /// Whether the call of this name may stand in a script.
 fn allowed(name: &str, reading: bool) -> bool {
-    !reading || ["build", "find", "list"].contains(&name)
+    !reading || ["build", "find", "list", "walk"].contains(&name)
 }
 
 struct Driver<'a> {

@@ -1,11 +1,13 @@
-//! Reading: build, find and list alone. The plan, from a seed:
+//! Reading: build, find, list and the range reader alone. The plan, from a
+//! seed:
 //!
 //! 1. a start: records built, up to 840; a tree made by hand on shuffled
 //!    places under several base pages; or a small state after units, open or
 //!    ended. Keys 0 and 4,294,967,295 are among them;
 //! 2. finds of keys that are there, of their neighbours, of both ends of the
 //!    range, and of any; lists with bounds crossed, equal, over all and any,
-//!    with room for none, one, some, all, and no multiple of 16;
+//!    with room for none, one, some, all, and no multiple of 16; walks of the
+//!    range reader from such keys on, with such room;
 //! 3. builds over it with fills and records in and out of range, marks and
 //!    order broken;
 //! 4. reads of the same with pages, log, numbers or a length harmed;
@@ -119,10 +121,10 @@ impl Reader {
     fn reads(&mut self, most: u64, harmed: Option<State>) {
         let mut state = harmed.unwrap_or_else(|| self.state.clone());
         for _ in 0..self.chance.within(1, most) {
-            let call = if self.chance.one_in(3) {
-                self.list(&mut state)
-            } else {
-                Call::Find { key: self.key() }
+            let call = match self.chance.within(1, 6) {
+                1..=2 => self.list(&mut state),
+                3 => self.walk(&mut state),
+                _ => Call::Find { key: self.key() },
             };
             self.script.call(&call, &mut state);
         }
@@ -157,6 +159,19 @@ impl Reader {
             4 => (self.key(), LAST),
             _ => (self.key(), self.key()),
         };
+        state.bytes = self.room(low, high);
+        Call::List { low, high }
+    }
+
+    /// A walk with its room in `state`.
+    fn walk(&mut self, state: &mut State) -> Call {
+        let key = self.key();
+        state.bytes = self.room(key, LAST);
+        Call::Walk { key }
+    }
+
+    /// Room for none, one, some or all of the records from `low` to `high`.
+    fn room(&mut self, low: u32, high: u32) -> Vec<u8> {
         let within = |key: &&u32| low <= **key && **key <= high;
         let all = ROW_BYTES * self.keys.iter().filter(within).count();
         let chance = &mut self.chance;
@@ -170,8 +185,7 @@ impl Reader {
             7 => all / 2,
             _ => chance.within(0, 600) as usize,
         };
-        state.bytes = vec![0; room.min(MOST_BYTES)];
-        Call::List { low, high }
+        vec![0; room.min(MOST_BYTES)]
     }
 
     /// Ascending keys, both ends of their range among them now and then.

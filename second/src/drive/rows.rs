@@ -2,9 +2,10 @@
 //!
 //! 1. each call of each row, in the rows' order, on the state that the row
 //!    says, and a dump after it;
-//! 2. where that leaves no unit open, the six keys are looked for and all
-//!    records listed;
-//! 3. for build, find and list alone: the same with rows 1, 10 and 11.
+//! 2. where that leaves no unit open, the six keys are looked for, all
+//!    records listed, and those from 30 on walked through;
+//! 3. for build, find, list and the range reader alone: the same with rows 1,
+//!    10 and 11.
 
 use super::{allowed, numbered, Made, Parts};
 use crate::bench::Script;
@@ -36,7 +37,7 @@ pub fn scripts(reading: bool) -> Vec<Made> {
     numbered("rows", parts.close())
 }
 
-/// The six keys and the whole list.
+/// The six keys, the whole list, and a walk.
 fn read(script: &mut Script, state: &mut State) {
     for key in KEYS {
         script.call(&Call::Find { key }, state);
@@ -47,4 +48,6 @@ fn read(script: &mut Script, state: &mut State) {
         high: u32::MAX,
     };
     script.call(&all, state);
+    state.bytes = vec![0; ROOM];
+    script.call(&Call::Walk { key: KEYS[2] }, state);
 }

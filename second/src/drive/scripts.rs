@@ -13,7 +13,7 @@ use crate::bytes::{put32, Numbers, LOG_BYTES, PAGES_BYTES};
 use crate::state::{record_bytes, Call, State};
 
 const NO_COMMANDS: [u8; 15] = [
-    0, 1, b'\n', b' ', b'0', b'A', b'W', b'b', b'd', b'r', b'x', 127, 128, 254, 255,
+    0, 1, b'\n', b' ', b'0', b'A', b'Y', b'b', b'd', b'r', b'x', 127, 128, 254, 255,
 ];
 const LAST: u32 = u32::MAX;
 /// Settings of all work pages in the script of some megabytes.
@@ -65,6 +65,7 @@ fn commands(reading: bool) -> Vec<Command> {
         (Call::Checkpoint { clear: true }, Vec::new()),
         (Call::Find { key: 1 }, Vec::new()),
         (Call::List { low: 1, high: 2 }, vec![0; 3]),
+        (Call::Walk { key: 1 }, vec![0; 3]),
     ];
     let calls = calls
         .into_iter()
@@ -99,6 +100,7 @@ fn limits(reading: bool) -> Vec<Vec<u8>> {
         log: right.log + 1,
     });
     let room = Command::Call(Call::List { low: 0, high: LAST }, vec![0; MOST_BYTES]);
+    let walk = Command::Call(Call::Walk { key: 0 }, vec![0; MOST_BYTES]);
     let records = Command::Call(Call::Build { f: 1, g: 1 }, vec![0; MOST_BYTES]);
     // A command at its limits, and where the number stands that is changed.
     let mut at_limits = Vec::new();
@@ -106,6 +108,7 @@ fn limits(reading: bool) -> Vec<Vec<u8>> {
         at_limits.push((lengths.write(), at, limit as u32 + 1));
     }
     at_limits.push((room.write(), 9, MOST_BYTES as u32));
+    at_limits.push((walk.write(), 5, MOST_BYTES as u32));
     at_limits.push((records.write(), 9, MOST_BYTES as u32));
     let mut all = Vec::new();
     for (written, at, limit) in at_limits {

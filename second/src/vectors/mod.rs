@@ -99,7 +99,7 @@ pub fn line(case: &Case) -> String {
         before.numbers.forced.to_string(),
         first(lent.work, &before.work),
         first(lent.store, &before.store),
-        first(true, &before.log),
+        first(lent.log, &before.log),
         first(lent.bytes, &before.bytes),
         answer.reply.to_string(),
         values(&answer.values),
@@ -107,7 +107,7 @@ pub fn line(case: &Case) -> String {
         after.numbers.forced.to_string(),
         then(lent.work, &before.work, &after.work),
         then(lent.store, &before.store, &after.store),
-        then(true, &before.log, &after.log),
+        then(lent.log, &before.log, &after.log),
         then(lent.bytes, &before.bytes, &after.bytes),
     ];
     fields.join(";") + "\n"
@@ -121,6 +121,7 @@ fn arguments(call: &Call) -> String {
         Call::Checkpoint { clear } => (clear as u8).to_string(),
         Call::Find { key } => key.to_string(),
         Call::List { low, high } => format!("{low} {high}"),
+        Call::Walk { key } => key.to_string(),
         Call::Recover | Call::BeginOrder | Call::Step | Call::Force => String::new(),
     }
 }
@@ -131,6 +132,7 @@ fn values(values: &Values) -> String {
         Values::Count(count) => count.to_string(),
         Values::Value(value) => value.map(|byte| byte.to_string()).join(" "),
         Values::Listed(count, more) => format!("{count} {}", *more as u8),
+        Values::Walked(count) => count.to_string(),
     }
 }
 

@@ -195,7 +195,7 @@ impl Cases {
                 store.store.resize(long(PAGES_BYTES), 0);
                 let mut log = State::zero();
                 log.log.resize(long(LOG_BYTES), 0);
-                for (is_lent, state) in [(lent.work, work), (lent.store, store), (true, log)] {
+                for (is_lent, state) in [(lent.work, work), (lent.store, store), (lent.log, log)] {
                     if is_lent {
                         self.add("length", call, &state);
                     }

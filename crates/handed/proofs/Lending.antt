@@ -24,7 +24,9 @@ use base.Logic.{SProp, ent, sep, ex, guard, monoR}
 use base.Fml.{GName, Lft, Fml, ftrue, fsep, flft, fdead, fres, flent, fat, froom, fdies}
 use prog.Wp.{Heap, Env, Calls, Loops, spotOf}
 use ghost.Atoms.{Atoms, sem}
-use types.Kit.{Post, Given, Item, Goal, Go, Seq, runs, frees, atRet, prop, ‵, raw, _⊛_, some, given, later, _$_, !, move, drop, by, use1, use2, use3, split, join, pick, learn, check, fsplit, fjoin, fpick, fpack, await, updating, now as at-once, rewrite, allocs, params′, qed, _∵_, done}
+use types.Kit.{Post, Given, Item, Goal, Go, Seq, runs, frees, atRet, prop, ‵, raw, _⊛_, some, given, later, _$_, !, move, drop, by, use1, use2, use3}
+use types.Kit.{split, join, pick, learn, check, fsplit, fjoin, fpick, fpack, await, updating, now as at-once, rewrite, allocs, params′, qed, _∵_}
+use types.Kit.{done}
 use types.Run.{Opds, look, init, stop, load, of-opd, addr, assigns, land, returns, alloc1, params1, pass1, free1, free0, forget, and-then, no-more}
 use types.Part.{agg}
 use types.SemTy.{Body as Borrowed}
@@ -41,7 +43,9 @@ use denote.Triple.Statement.{Contract, Triple}
 use denote.Triple.Call.{calls-at}
 use Rattle.walks.proofs.Meeting.{leaves}
 use Rattle.walks.proofs.Places.{finds, reads-result}
-use Rattle.walks.proofs.Beside.{Beside, valuesOf, behind, ownLocals, loanLocals, loanRooms, ownCells, loanCells, relendCode, operands, ownEnv, loanEnv, OwnSpots, LoanSpots, own-spots-more, loan-spots-more, own-spots, loan-spots, spot-behind, loan-spots-behind, allocates-own, allocates-loans, passes-own, frees-own, frees-loans, lends-again, reads-alike, reads-all}
+use Rattle.walks.proofs.Beside.{Beside, valuesOf, behind, ownLocals, loanLocals, loanRooms, ownCells, loanCells, relendCode, operands, ownEnv}
+use Rattle.walks.proofs.Beside.{loanEnv, OwnSpots, LoanSpots, own-spots-more, loan-spots-more, own-spots, loan-spots, spot-behind, loan-spots-behind}
+use Rattle.walks.proofs.Beside.{allocates-own, allocates-loans, passes-own, frees-own, frees-loans, lends-again, reads-alike, reads-all}
 use Rattle.store.specs.declared.known.Numbers.{Numbers}
 use Rattle.store.proofs.known.Numbers as N
 use Rattle.store.proofs.known.Numbers.Laws as N′
@@ -97,7 +101,8 @@ module _ {M : Type 1} (𝓤 : URA M) (H : Heap 𝓤) (A : Atoms 𝓤) (W : Given
   lends-record b α h =
       qed W (‵ (fat fullShare N′.mir b 0 (N′.lowered h)) ∷ ‵ (N.the-row .own h (N′.lowered h ∷ [])) ∷ []) ∵
       use1 W (‵ (cellAt fullShare (N.the-row .mir) (N′.lowered h ∷ []) b 0)) (W .laws .at-raw fullShare N′.mir b 0 (N′.lowered h)) $ fjoin ! $
-      fpack ! (List Val) (λ us. fsep (cellAt fullShare (N.the-row .mir) us b 0) (N.the-row .own h us)) (N′.lowered h ∷ []) $ by ! (lends-ref 𝓤 H A W N.the-row (named 0) (α ∷ []) h b 0)
+      fpack ! (List Val) (λ us. fsep (cellAt fullShare (N.the-row .mir) us b 0) (N.the-row .own h us)) (N′.lowered h ∷ []) $ by !
+      (lends-ref 𝓤 H A W N.the-row (named 0) (α ∷ []) h b 0)
 
   record-back : (l : Loan) (h : Numbers) → ent 𝓤 (sep 𝓤 (A .dead (lifeOf l)) (sep 𝓤 (sem 𝓤 H A (lenderPart l)) (A .res (l .name) (N.the-row .coded .code h))))
       (H .⇛ (guard 𝓤 (Is N.the-row h (N′.lowered h ∷ [])) (H .at fullShare N′.mir (l .at) 0 (N′.lowered h))))
@@ -105,15 +110,18 @@ module _ {M : Type 1} (𝓤 : URA M) (H : Heap 𝓤) (A : Atoms 𝓤) (W : Given
   record-back l h =
       qed W (‵ (fdead (lifeOf l)) ∷ ‵ (lenderPart l) ∷ ‵ (fres (l .name) (N.the-row .coded .code h)) ∷ []) ∵ updating ! $
       use3 W (later (‵ (mem N.the-row .lies h (l .at) 0))) (ref-back 𝓤 H A W N.the-row (lifeOf l) (l .name) h (l .at) 0) $ await ! tt $ at-once ! $
-      fpick ! (λ vs. fsplit ! $ spelt ! N.the-row (Is N.the-row) (shows 𝓤 H A N.the-row) (SL.vals N.the-type N′.the-laws) (SL.tells N.the-type N′.the-laws) fullShare h vs (l .at) 0 $
-      move ! (1 ∷ []) $ peeks ! N.the-row (Is N.the-row) (shows 𝓤 H A N.the-row) h (SL.vals N.the-type N′.the-laws h) (λ is. drop ! $ check ! is $ by ! (W .laws .raw-at fullShare N′.mir (l .at) 0 (N′.lowered h))))
+      fpick ! (λ vs. fsplit ! $ spelt ! N.the-row (Is N.the-row) (shows 𝓤 H A N.the-row) (SL.vals N.the-type N′.the-laws) (SL.tells N.the-type N′.the-laws)
+      fullShare h vs (l .at) 0 $
+      move ! (1 ∷ []) $ peeks ! N.the-row (Is N.the-row) (shows 𝓤 H A N.the-row) h (SL.vals N.the-type N′.the-laws h)
+      (λ is. drop ! $ check ! is $ by ! (W .laws .raw-at fullShare N′.mir (l .at) 0 (N′.lowered h))))
 
 -- ---- the call
 module _ {M : Type 1} (𝓤 : URA M) (H : Heap 𝓤) (A : Atoms 𝓤) (W : Given 𝓤 H A) (S : Answered) (Q : Made S)
     -- the numbers at entry; the others' tokens, what they own, their last values and what is said of those
     (h : Numbers) (is : Is N.the-row h (N′.lowered h ∷ [])) (tokens : SProp 𝓤) (O : Fml) (Last : Type 0) (L : Last → Fml)
     -- what the callee ensures, what the call ensures, and that the one gives the other
-    (Φ : Loan → S .R .Denot → Numbers × Last → SProp 𝓤) (Ψ : S .RA .Denot → Last → SProp 𝓤) (gives : (l : Loan) (x : S .R .Denot) (z : Numbers × Last) → ent 𝓤 (Φ l x z) (Ψ (Q .make x (z .0)) (z .1))) where
+    (Φ : Loan → S .R .Denot → Numbers × Last → SProp 𝓤) (Ψ : S .RA .Denot → Last → SProp 𝓤)
+    (gives : (l : Loan) (x : S .R .Denot) (z : Numbers × Last) → ent 𝓤 (Φ l x z) (Ψ (Q .make x (z .0)) (z .1))) where
   abbrev Items : Type 2
   Items = List (Item 𝓤)
 
@@ -124,13 +132,15 @@ module _ {M : Type 1} (𝓤 : URA M) (H : Heap 𝓤) (A : Atoms 𝓤) (W : Given
   own = N.the-row .own h (N′.lowered h ∷ [])
 
   abbrev Left : Val → SProp 𝓤
-  Left v = H .⇛ (ex 𝓤 (λ (r : S .RA .Denot). sep 𝓤 (sep 𝓤 tokens (sem 𝓤 H A (S .RA .own r (v ∷ [])))) (ex 𝓤 (λ (z : Unit {0} × Last). sep 𝓤 (sem 𝓤 H A (fsep ftrue (L (z .1)))) (Ψ r (z .1))))))
+  Left v = H .⇛ (ex 𝓤 (λ (r : S .RA .Denot). sep 𝓤 (sep 𝓤 tokens (sem 𝓤 H A (S .RA .own r (v ∷ []))))
+      (ex 𝓤 (λ (z : Unit {0} × Last). sep 𝓤 (sem 𝓤 H A (fsep ftrue (L (z .1)))) (Ψ r (z .1))))))
 
   abbrev valueAt : S .R .Denot → Numbers → Val
   valueAt x g = both (S .value x) g
 
   leaves-it : (l : Loan) (x : S .R .Denot) (z : Numbers × Last)
-      → ent 𝓤 (sep 𝓤 (sep 𝓤 tokens (sem 𝓤 H A (S .RA .own (Q .make x (z .0)) (valueAt x (z .0) ∷ [])))) (sep 𝓤 (sem 𝓤 H A (fsep ftrue (L (z .1)))) (Φ l x z))) (Left (valueAt x (z .0)))
+      → ent 𝓤 (sep 𝓤 (sep 𝓤 tokens (sem 𝓤 H A (S .RA .own (Q .make x (z .0)) (valueAt x (z .0) ∷ [])))) (sep 𝓤 (sem 𝓤 H A (fsep ftrue (L (z .1)))) (Φ l x z)))
+      (Left (valueAt x (z .0)))
   leaves-it l x z =
       let r : S .RA .Denot = Q .make x (z .0) in
       let B : S .RA .Denot → SProp 𝓤 = λ r′. sep 𝓤 tokens (sem 𝓤 H A (S .RA .own r′ (valueAt x (z .0) ∷ []))) in
@@ -141,7 +151,8 @@ module _ {M : Type 1} (𝓤 : URA M) (H : Heap 𝓤) (A : Atoms 𝓤) (W : Given
       -- the callee's contract, at what it is handed
       (callee : Name) (c : Contract 𝓤) (known : Triple 𝓤 (C callee) c) (y : Loan → c .Ghost)
       (handing : (l : Loan) → ent 𝓤 (sep 𝓤 (sep 𝓤 (A .lft (lifeOf l) fullShare) tokens) (sem 𝓤 H A (fsep (lentOwn l h) O))) (c .pre (y l)))
-      (answering : (l : Loan) (u : Val) → ent 𝓤 (c .post (y l) u) (H .⇛ (ex 𝓤 (λ (x : S .R .Denot). sep 𝓤 (sep 𝓤 (sep 𝓤 (A .lft (lifeOf l) fullShare) tokens) (sem 𝓤 H A (S .R .own x (u ∷ []))))
+      (answering : (l : Loan) (u : Val) → ent 𝓤 (c .post (y l) u)
+      (H .⇛ (ex 𝓤 (λ (x : S .R .Denot). sep 𝓤 (sep 𝓤 (sep 𝓤 (A .lft (lifeOf l) fullShare) tokens) (sem 𝓤 H A (S .R .own x (u ∷ []))))
       (ex 𝓤 (λ (z : Numbers × Last). sep 𝓤 (sem 𝓤 H A (fsep (fres (l .name) (N.the-row .coded .code (z .0))) (L (z .1)))) (Φ l x z)))))))
     where
       module _
@@ -177,27 +188,34 @@ module _ {M : Type 1} (𝓤 : URA M) (H : Heap 𝓤) (A : Atoms 𝓤) (W : Given
 
         callee-called : (Γ : Items) (xs : List Operand)
             → ((α : ℕ) (γ : GName) (i₀ i₁ : Item 𝓤) → Opds (Go {0}) W (i₀ ∷ i₁ ∷ cellP ∷ rooms Γ) E xs (c .args (y (loan α γ))))
-            → ((x : S .R .Denot) (g : Numbers) → Goes (raw (Left (valueAt x g)) ∷ cellM g ∷ cellP ∷ ‵ (fat fullShare (S .τ) lX 0 (S .value x)) ∷ ‵ (fat fullShare N′.mir lB 0 (N′.lowered g)) ∷ ‵ (fat fullShare (answerTy (S .ν) (S .τ)) l₀ 0 (valueAt x g)) ∷ cell₁ ∷ Γ) (frees E (prop (Left (valueAt x g)))))
+            → ((x : S .R .Denot) (g : Numbers) → Goes (raw (Left (valueAt x g)) ∷ cellM g ∷ cellP ∷ ‵ (fat fullShare (S .τ) lX 0 (S .value x)) ∷ ‵
+            (fat fullShare N′.mir lB 0 (N′.lowered g)) ∷ ‵ (fat fullShare (answerTy (S .ν) (S .τ)) l₀ 0 (valueAt x g)) ∷ cell₁ ∷ Γ) (frees E (prop (Left (valueAt x g)))))
             → Goes (held ∷ cellM h ∷ cellP ∷ rooms Γ) (runs C Λ E (callCode callee xs iM iX iB) (atRet E Left))
         callee-called Γ xs reads k =
             split ! $ move ! (1 ∷ []) $ fsplit ! $ lft-new ! tt (λ α.
             -- [the lifetime's token; what the numbers own; O; the others' tokens; the record; the pointer; the rooms; n; Γ]
-            move ! (4 ∷ 1 ∷ []) $ use2 W (later (some (λ (γ : GName). ‵ (lentOwn (loan α γ) h) ⊛ ‵ (lenderPart (loan α γ))))) (lends-record 𝓤 H A W lM α h) $ await ! tt $ pick ! (λ γ. split ! $
+            move ! (4 ∷ 1 ∷ []) $ use2 W (later (some (λ (γ : GName). ‵ (lentOwn (loan α γ) h) ⊛ ‵ (lenderPart (loan α γ))))) (lends-record 𝓤 H A W lM α h) $
+            await ! tt $ pick ! (λ γ. split ! $
             -- [the lent record; the lender's part; the lifetime's token; O; the others' tokens; the pointer; the rooms; n; Γ]
             move ! (2 ∷ 4 ∷ []) $ join ! $ move ! (1 ∷ 3 ∷ []) $ fjoin ! $ move ! (1 ∷ 0 ∷ []) $ use2 W (raw (c .pre (y (loan α γ)))) (handing (loan α γ)) $
             -- [the callee's pre; the lender's part; the pointer; the rooms; n; Γ]
             calls-at ! fm c known (y (loan α γ)) (reads α γ _ _) (λ u.
-            use1 W (later (some (λ (x : S .R .Denot). ((‵ (flft (α ∷ []) fullShare) ⊛ raw tokens) ⊛ ‵ (S .R .own x (u ∷ []))) ⊛ some (λ (z : Numbers × Last). ‵ (fsep (fres γ (N.the-row .coded .code (z .0))) (L (z .1))) ⊛ raw (Φ (loan α γ) x z))))) (answering (loan α γ) u) $
+            use1 W (later (some (λ (x : S .R .Denot). ((‵ (flft (α ∷ []) fullShare) ⊛ raw tokens) ⊛ ‵ (S .R .own x (u ∷ []))) ⊛ some
+            (λ (z : Numbers × Last). ‵ (fsep (fres γ (N.the-row .coded .code (z .0))) (L (z .1))) ⊛ raw (Φ (loan α γ) x z))))) (answering (loan α γ) u) $
             await ! tt $ pick ! (λ x. split ! $ split ! $ split ! $ move ! (3 ∷ []) $ pick ! (λ z. split ! $ fsplit ! $
             -- [the record's last value; what is said of the others; what the callee ensures; the lifetime's token; the others' tokens; the result; the lender's part; the pointer; the rooms; n; Γ]
             move ! (5 ∷ []) $ peeks ! (S .R) (Is (S .R)) (shows 𝓤 H A (S .R)) x (u ∷ []) (λ result-is. drop ! $
-            land ! (finds ! eX (stop !)) (init ! 7 refl (Q .typed 𝓤 H A W x u result-is)) $ rewrite ! 7 (λ (w : Val). ‵ (fat fullShare (S .τ) lX 0 w)) (Q .value-is x u result-is) refl $
+            land ! (finds ! eX (stop !)) (init ! 7 refl (Q .typed 𝓤 H A W x u result-is)) $ rewrite ! 7 (λ (w : Val). ‵ (fat fullShare (S .τ) lX 0 w))
+            (Q .value-is x u result-is) refl $
             move ! (3 ∷ []) $ lft-end ! tt $ move ! (0 ∷ 5 ∷ 1 ∷ []) $
             use3 W (later (given (Is N.the-row (z .0) (N′.lowered (z .0) ∷ [])) (cellM (z .0)))) (record-back 𝓤 H A W (loan α γ) (z .0)) $ await ! tt $ learn ! (λ numbers-are.
             -- [the record; what is said of the others; what the callee ensures; the others' tokens; the pointer; the result; rooms for the record come back and the answer; n; Γ]
-            let answer-is : Is (S .RA) (Q .make x (z .0)) (valueAt x (z .0) ∷ []) = Q .answer-is x (z .0) (subst (λ (w : Val). Is (S .R) x (w ∷ [])) (Q .value-is x u result-is) result-is) numbers-are in
-            assigns ! (of-opd ! (load ! (finds ! eM (stop !)) (look ! 0 refl))) (finds ! eB (stop !)) (init ! 6 refl (SL.lawful N.the-type N′.the-laws 𝓤 H A W .typed (z .0) _ numbers-are .0)) $
-            assigns ! (agg ! (and-then ! (load ! (finds ! eX (stop !)) (look ! 5 refl)) (and-then ! (load ! (finds ! eB (stop !)) (look ! 6 refl)) (no-more !)))) (finds ! e₀ (stop !)) (init ! 7 refl (S .parts 𝓤 H A W _ _ answer-is .typed)) $
+            let answer-is : Is (S .RA) (Q .make x (z .0)) (valueAt x (z .0) ∷ []) = Q .answer-is x (z .0)
+            (subst (λ (w : Val). Is (S .R) x (w ∷ [])) (Q .value-is x u result-is) result-is) numbers-are in
+            assigns ! (of-opd ! (load ! (finds ! eM (stop !)) (look ! 0 refl))) (finds ! eB (stop !))
+            (init ! 6 refl (SL.lawful N.the-type N′.the-laws 𝓤 H A W .typed (z .0) _ numbers-are .0)) $
+            assigns ! (agg ! (and-then ! (load ! (finds ! eX (stop !)) (look ! 5 refl))
+            (and-then ! (load ! (finds ! eB (stop !)) (look ! 6 refl)) (no-more !)))) (finds ! e₀ (stop !)) (init ! 7 refl (S .parts 𝓤 H A W _ _ answer-is .typed)) $
             owned ! (S .RA) (Is (S .RA)) (Q .makes 𝓤 H A W) (Q .make x (z .0)) (valueAt x (z .0) ∷ []) answer-is $ nothing ! $
             -- [true; what the answer owns; the record; what is said of the others; what the callee ensures; the others' tokens; the pointer; the result; ..]
             move ! (0 ∷ 3 ∷ []) $ fjoin ! $ move ! (0 ∷ 3 ∷ []) $ join ! $ move ! (3 ∷ 1 ∷ []) $ join ! $ use2 W (raw (Left (valueAt x (z .0)))) (leaves-it (loan α γ) x z) $
@@ -205,19 +223,26 @@ module _ {M : Type 1} (𝓤 : URA M) (H : Heap 𝓤) (A : Atoms 𝓤) (W : Given
 
         -- what the caller shows of the lending, of the operands and of the freeing is shown at whatever is carried along
         body-runs : (Γ Δ : Items) (rest : Body) (xs : List Operand)
-            → ((i : Item 𝓤) (p : Post 𝓤 H) → Goes (i ∷ cellM h ∷ cellP ∷ rooms Δ) (runs C Λ E (callCode callee xs iM iX iB) p) → Goes (i ∷ cellM h ∷ cellP ∷ rooms Γ) (runs C Λ E rest p))
+            → ((i : Item 𝓤) (p : Post 𝓤 H) → Goes (i ∷ cellM h ∷ cellP ∷ rooms Δ) (runs C Λ E (callCode callee xs iM iX iB) p) → Goes
+            (i ∷ cellM h ∷ cellP ∷ rooms Γ) (runs C Λ E rest p))
             → ((α : ℕ) (γ : GName) (i₀ i₁ : Item 𝓤) → Opds (Go {0}) W (i₀ ∷ i₁ ∷ cellP ∷ rooms Δ) E xs (c .args (y (loan α γ))))
-            → ((P : SProp 𝓤) (vX v₀ : Val) (g : Numbers) → Goes (raw P ∷ cellM g ∷ cellP ∷ ‵ (fat fullShare (S .τ) lX 0 vX) ∷ ‵ (fat fullShare N′.mir lB 0 (N′.lowered g)) ∷ ‵ (fat fullShare (answerTy (S .ν) (S .τ)) l₀ 0 v₀) ∷ cell₁ ∷ Δ) (frees E (prop P)))
+            → ((P : SProp 𝓤) (vX v₀ : Val) (g : Numbers) → Goes
+            (raw P ∷ cellM g ∷ cellP ∷ ‵ (fat fullShare (S .τ) lX 0 vX) ∷ ‵ (fat fullShare N′.mir lB 0 (N′.lowered g)) ∷ ‵
+            (fat fullShare (answerTy (S .ν) (S .τ)) l₀ 0 v₀) ∷ cell₁ ∷ Δ) (frees E (prop P)))
             → Goes (held ∷ ‵ (froom N′.mir lM 0) ∷ ‵ (froom τp lP 0) ∷ rooms Γ) (runs C Λ E (lendCode iM iP rest) (atRet E Left))
         body-runs Γ Δ rest xs lends reads k = record-pointed held Γ rest (atRet E Left) (lends held (atRet E Left) (callee-called Δ xs reads (λ x g. k (Left (valueAt x g)) _ _ g)))
 
       pub lending-runs : (os : List Beside) (τp : Ty) → ((b : ℕ) → Typed τp (vptr b 0)) → ((l : Loan) → c .args (y l) ≡ vptr (l .at) 0 ∷ valuesOf os)
           → Goes ((raw tokens ⊛ ‵ (fsep own O)) ∷ [])
-          (allocs (local (answerTy (S .ν) (S .τ)) valueLocal ∷ local N′.mir valueLocal ∷ ownLocals os (local N′.mir memorySlot ∷ local (S .τ) valueLocal ∷ local N′.mir valueLocal ∷ local τp valueLocal ∷ loanLocals os)) (λ E. params′ E (N′.lowered h ∷ valuesOf os) (runs C Λ E
+          (allocs (local (answerTy (S .ν) (S .τ)) valueLocal ∷ local N′.mir valueLocal ∷ ownLocals os
+          (local N′.mir memorySlot ∷ local (S .τ) valueLocal ∷ local N′.mir valueLocal ∷ local τp valueLocal ∷ loanLocals os))
+          (λ E. params′ E (N′.lowered h ∷ valuesOf os) (runs C Λ E
           (lendCode (suc (suc (behind os 0))) (suc (suc (behind os 3))) (relendCode os 2 (suc (suc (behind os 4)))
-          (callCode callee (copy (place (suc (suc (behind os 3))) []) ∷ operands os 2 (suc (suc (behind os 4)))) (suc (suc (behind os 0))) (suc (suc (behind os 1))) (suc (suc (behind os 2)))))) (atRet E Left))))
+          (callCode callee (copy (place (suc (suc (behind os 3))) []) ∷ operands os 2 (suc (suc (behind os 4)))) (suc (suc (behind os 0)))
+          (suc (suc (behind os 1))) (suc (suc (behind os 2)))))) (atRet E Left))))
       lending-runs os τp typed-p args-are =
-          alloc1 ! (λ l₀. alloc1 ! (λ l₁. allocates-own 𝓤 H A W _ os _ _ (λ us. alloc1 ! (λ lM. alloc1 ! (λ lX. alloc1 ! (λ lB. alloc1 ! (λ lP. allocates-loans 𝓤 H A W _ os _ (λ bs.
+          alloc1 ! (λ l₀. alloc1 ! (λ l₁. allocates-own 𝓤 H A W _ os _ _
+          (λ us. alloc1 ! (λ lM. alloc1 ! (λ lX. alloc1 ! (λ lB. alloc1 ! (λ lP. allocates-loans 𝓤 H A W _ os _ (λ bs.
           let EP : Env 𝓤 H = (τp, lP) ∷ loanEnv 𝓤 H os bs in
           let EB : Env 𝓤 H = (N′.mir, lB) ∷ EP in
           let EX : Env 𝓤 H = (S .τ, lX) ∷ EB in
@@ -227,14 +252,21 @@ module _ {M : Type 1} (𝓤 : URA M) (H : Heap 𝓤) (A : Atoms 𝓤) (W : Given
           let E : Env 𝓤 H = (answerTy (S .ν) (S .τ), l₀) ∷ E₁ in
           let eP : spotOf 𝓤 H E (suc (suc (behind os 3))) ≡ (τp, lP, 0) = spot-behind 𝓤 H os us EM 3 in
           let own-at : OwnSpots 𝓤 H E 2 os us = own-spots-more 𝓤 H (answerTy (S .ν) (S .τ), l₀) E₁ 1 os us (own-spots-more 𝓤 H (N′.mir, l₁) E₂ 0 os us (own-spots 𝓤 H os us EM)) in
-          let loan-M : LoanSpots 𝓤 H EM 4 os bs = loan-spots-more 𝓤 H (N′.mir, lM) EX 3 os bs (loan-spots-more 𝓤 H (S .τ, lX) EB 2 os bs (loan-spots-more 𝓤 H (N′.mir, lB) EP 1 os bs (loan-spots-more 𝓤 H (τp, lP) (loanEnv 𝓤 H os bs) 0 os bs (loan-spots 𝓤 H os bs)))) in
-          let loan-at : LoanSpots 𝓤 H E (suc (suc (behind os 4))) os bs = loan-spots-more 𝓤 H (answerTy (S .ν) (S .τ), l₀) E₁ (suc (behind os 4)) os bs (loan-spots-more 𝓤 H (N′.mir, l₁) E₂ (behind os 4) os bs (loan-spots-behind 𝓤 H os us EM 4 os bs loan-M)) in
-          let dying : Items = ‵ (fdies τp lP) ∷ ‵ (fdies N′.mir lB) ∷ ‵ (fdies (S .τ) lX) ∷ ‵ (fdies N′.mir lM) ∷ ‵ (fdies N′.mir l₁) ∷ ‵ (fdies (answerTy (S .ν) (S .τ)) l₀) ∷ [] in
-          let five : Items → Items = λ Γ. ‵ (fat fullShare τp lP 0 (vptr lM 0)) ∷ ‵ (froom (S .τ) lX 0) ∷ ‵ (froom N′.mir lB 0) ∷ ‵ (froom (answerTy (S .ν) (S .τ)) l₀ 0) ∷ ‵ (fat fullShare N′.mir l₁ 0 (N′.lowered h)) ∷ Γ in
+          let loan-M : LoanSpots 𝓤 H EM 4 os bs = loan-spots-more 𝓤 H (N′.mir, lM) EX 3 os bs
+          (loan-spots-more 𝓤 H (S .τ, lX) EB 2 os bs (loan-spots-more 𝓤 H (N′.mir, lB) EP 1 os bs
+          (loan-spots-more 𝓤 H (τp, lP) (loanEnv 𝓤 H os bs) 0 os bs (loan-spots 𝓤 H os bs)))) in
+          let loan-at : LoanSpots 𝓤 H E (suc (suc (behind os 4))) os bs = loan-spots-more 𝓤 H (answerTy (S .ν) (S .τ), l₀) E₁ (suc (behind os 4)) os bs
+          (loan-spots-more 𝓤 H (N′.mir, l₁) E₂ (behind os 4) os bs (loan-spots-behind 𝓤 H os us EM 4 os bs loan-M)) in
+          let dying : Items = ‵ (fdies τp lP) ∷ ‵ (fdies N′.mir lB) ∷ ‵ (fdies (S .τ) lX) ∷ ‵ (fdies N′.mir lM) ∷ ‵ (fdies N′.mir l₁) ∷ ‵
+          (fdies (answerTy (S .ν) (S .τ)) l₀) ∷ [] in
+          let five : Items → Items = λ Γ. ‵ (fat fullShare τp lP 0 (vptr lM 0)) ∷ ‵ (froom (S .τ) lX 0) ∷ ‵ (froom N′.mir lB 0) ∷ ‵
+          (froom (answerTy (S .ν) (S .τ)) l₀ 0) ∷ ‵ (fat fullShare N′.mir l₁ 0 (N′.lowered h)) ∷ Γ in
           -- [the loans' rooms; room for the pointer; dies; for the record come back; dies; for the result; dies; for the record; dies; the others' rooms; for n; dies; for the answer; dies; what is held]
-          params1 ! $ pass1 ! (init ! 10 refl (SL.lawful N.the-type N′.the-laws 𝓤 H A W .typed h _ is .0)) $ move ! (9 ∷ []) $ passes-own 𝓤 H A W _ os us _ _ (move ! (14 ∷ 8 ∷ 2 ∷ 6 ∷ 4 ∷ 12 ∷ 10 ∷ []) $
+          params1 ! $ pass1 ! (init ! 10 refl (SL.lawful N.the-type N′.the-laws 𝓤 H A W .typed h _ is .0)) $ move ! (9 ∷ []) $ passes-own 𝓤 H A W _ os us _ _
+          (move ! (14 ∷ 8 ∷ 2 ∷ 6 ∷ 4 ∷ 12 ∷ 10 ∷ []) $
           body-runs E (suc (suc (behind os 0))) (suc (suc (behind os 1))) (suc (suc (behind os 2))) (suc (suc (behind os 3))) lM lX lB lP l₀ l₁ τp (typed-p lM)
-          (spot-behind 𝓤 H os us EM 0) (spot-behind 𝓤 H os us EM 1) (spot-behind 𝓤 H os us EM 2) eP refl refl (‵ (ownCells os us) ∷ ‵ (loanRooms os bs) ∷ dying) (‵ (ownCells os us) ∷ ‵ (loanCells os bs) ∷ dying) _ _
+          (spot-behind 𝓤 H os us EM 0) (spot-behind 𝓤 H os us EM 1) (spot-behind 𝓤 H os us EM 2) eP refl refl (‵ (ownCells os us) ∷ ‵ (loanRooms os bs) ∷ dying)
+          (‵ (ownCells os us) ∷ ‵ (loanCells os bs) ∷ dying) _ _
           (λ i p k. move ! (7 ∷ 8 ∷ []) $ lends-again 𝓤 H A W C Λ E p _ os us bs 2 (suc (suc (behind os 4))) _ own-at loan-at (move ! (2 ∷ 3 ∷ 4 ∷ 5 ∷ 6 ∷ 7 ∷ 8 ∷ []) $ k))
           (λ α γ i₀ i₁.
           let Γ : Items = i₀ ∷ i₁ ∷ five (‵ (ownCells os us) ∷ ‵ (loanCells os bs) ∷ dying) in
@@ -245,5 +277,6 @@ module _ {M : Type 1} (𝓤 : URA M) (H : Heap 𝓤) (A : Atoms 𝓤) (W : Given
           (qed W Δ ∵ move ! (2 ∷ 3 ∷ 4 ∷ 5 ∷ 6 ∷ 7 ∷ 8 ∷ 0 ∷ 1 ∷ []) $ done !)
           (reads-all 𝓤 H A W _ E os us bs 2 (suc (suc (behind os 4))) own-at loan-at))))
           (λ P vX v₀ g. move ! (5 ∷ 14 ∷ []) $ forget ! 0 refl $ free1 ! $ move ! (5 ∷ 12 ∷ []) $ forget ! 0 refl $ free1 ! $ move ! (5 ∷ []) $ frees-own 𝓤 H A W _ os us _ _ (
-          move ! (1 ∷ 9 ∷ []) $ forget ! 0 refl $ free1 ! $ move ! (2 ∷ 7 ∷ []) $ forget ! 0 refl $ free1 ! $ move ! (2 ∷ 5 ∷ []) $ forget ! 0 refl $ free1 ! $ move ! (1 ∷ 3 ∷ []) $ forget ! 0 refl $ free1 ! $
+          move ! (1 ∷ 9 ∷ []) $ forget ! 0 refl $ free1 ! $ move ! (2 ∷ 7 ∷ []) $ forget ! 0 refl $ free1 ! $ move ! (2 ∷ 5 ∷ []) $ forget ! 0 refl $ free1 ! $
+          move ! (1 ∷ 3 ∷ []) $ forget ! 0 refl $ free1 ! $
           move ! (1 ∷ []) $ frees-loans 𝓤 H A W _ os bs _ (free0 ! $ done !))))))))))))

@@ -143,7 +143,8 @@ module _ (w : List ℕ) (s : Sound w) (bytes : Bytes w) (key o : ℕ) (eo : o �
       let h : o ≤ length tops = rw (length-rows 8 (page 0 w)) (top-few w s key o eo) in
       let k : i ≤ length rb = rw (length-rows 8 (page b w)) (base-few w s key o eo some b eb i ei) in
       let z : getD (pages w) (toPage e) [] ≡ page b w = rw (← eb) (getD-pages b w (over .base .inside)) in
-      let down : rows 8 (getD (pages w) (toPage e) []) ≡ take (i - 1) rb ++ (getD rb (i - 1) [] ∷ drop i rb) = ap (rows 8) z ∙ cut-at rb i (base-some w s key o eo some b eb i ei) k in
+      let down : rows 8 (getD (pages w) (toPage e) []) ≡ take (i - 1) rb ++ (getD rb (i - 1) [] ∷ drop i rb) = ap (rows 8) z ∙ cut-at rb i
+      (base-some w s key o eo some b eb i ei) k in
       ap (below 8 (pages w)) (cut-at tops o some h) ∙ below-cut (pages w) (take (o - 1) tops) e (drop o tops) (take (i - 1) rb) (getD rb (i - 1) []) (drop i rb) down
 
   -- the entry's key isn't above the wanted one, the next one's is
@@ -211,8 +212,11 @@ module _ (w : List ℕ) (s : Sound w) (bytes : Bytes w) (key o : ℕ) (eo : o �
       let rise : Rising 0 rs = ascend-rising (spot .order .one) (spot .order .two) 0 rs (spot .order .order) in
       let few : Each (λ x. keyOf x ≤ most4) (take r rs ++ drop r rs) = rw (take-append-drop r rs) (each-left rs (below 16 (pages w) ys) small) in
       ap (between key most4) (sym (take-append-drop r rs)) ∙ between-append key most4 (take r rs) (drop r rs)
-      ∙ rw
-      (between-none key most4 (take r rs) (rw er (below-front key rs)), between-all key most4 (drop r rs) (rw er (rising-rest key 0 rs rise)) (each-right (take r rs) (drop r rs) few))
+      ∙ rw (
+        between-none key most4 (take r rs) (rw er (below-front key rs)),
+        between-all key most4 (drop r rs) (rw er (rising-rest key 0 rs rise))
+            (each-right (take r rs) (drop r rs) few),
+      )
 
   in-bounds : between key most4 (below 16 (pages w) (below 8 (pages w) (rows 8 (page 0 w)))) ≡ drop r (rows 16 (page p w)) ++ below 16 (pages w) ys
   in-bounds =

@@ -55,11 +55,13 @@ module _ (w : List ℕ) (s : Sound w) (bytes : Bytes w) (at : Place) (seat : Sea
       let lp : length pg ≡ 256 = length-page (at .leaf) w (s .form .whole) (seat .spot .inside) in
       let long : length (part (16 + 16 * at .row) 16 pg) ≡ 16 = length-part (16 + 16 * at .row) 16 pg (omega (arith, k .room, here)) in
       let m = mark-at 114 99 0 (at .row) (rows 16 pg) (k .order) h in
-      record-again (recordAt w s at seat here) (ap length (getD-rows 16 (at .row) pg here) ∙ long) (m .0) (m .1) (each-at (at .row) (bytes-rows 16 pg (bytes-page (at .leaf) w bytes)) h)
+      record-again (recordAt w s at seat here) (ap length (getD-rows 16 (at .row) pg here) ∙ long) (m .0) (m .1)
+      (each-at (at .row) (bytes-rows 16 pg (bytes-page (at .leaf) w bytes)) h)
 
 -- ---- step by step
 
-walked-more : (n : ℕ) (w : List ℕ) (at : Place) (k : ℕ) (v : List ℕ) (next : Place) → nextFrom w at ≡ step true k v next → walked (suc n) w at ≡ recordOf (step true k v next) ∷ walked n w next
+walked-more : (n : ℕ) (w : List ℕ) (at : Place) (k : ℕ) (v : List ℕ) (next : Place) → nextFrom w at ≡ step true k v next → walked (suc n) w at ≡ recordOf
+    (step true k v next) ∷ walked n w next
 unfolding walked
 walked-more n w at k v next e = rw e (pick-true _ _ _ refl)
 

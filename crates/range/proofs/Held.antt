@@ -49,7 +49,8 @@ module _ {M : Type 1} {𝓤 : URA M} {H : Heap 𝓤} {A : Atoms 𝓤} {K : Type 
   unfolding partOf
   lies t R x vs b o = step (λ s. fjoin t $ fpack t (List Val) (λ us. fsep (cellAt fullShare (R .mir) us b o) (R .own x us)) vs $ s)
 
-  pub lay : K → (R : RattleType) (x : R .Denot) (b o : ℕ) → ((vs : List Val) → Seq K W (‵ (cellAt fullShare (R .mir) vs b o) ∷ ‵ (R .own x vs) ∷ Γ) G) → Seq K W (‵ (mem R .lies x b o) ∷ Γ) G
+  pub lay : K → (R : RattleType) (x : R .Denot) (b o : ℕ) → ((vs : List Val) → Seq K W (‵ (cellAt fullShare (R .mir) vs b o) ∷ ‵ (R .own x vs) ∷ Γ) G) → Seq K W
+      (‵ (mem R .lies x b o) ∷ Γ) G
   unfolding partOf
   lay t R x b o k = fpick t (λ vs. fsplit t $ k vs)
 

@@ -125,7 +125,8 @@ module _ (w : List ℕ) (s : Sound w) where
         (λ k. let b : ℕ = entryTo 0 (at .root) w in
         let over : Over w b = unfold entryTo in root-over w s (at .root) b k refl in
         let low : b ≤ 7 = root-to w s (at .root) b k refl in
-        let e : leafAfter at w ≡ firstBelow (at .root + 1) b 0 w = after-top w at none (top-there w s (at .root) k) b refl (entry-there w s b 0 (over .base) low (over .base .full)) in
+        let e : leafAfter at w ≡ firstBelow (at .root + 1) b 0 w = after-top w at none (top-there w s (at .root) k) b refl
+        (entry-there w s b 0 (over .base) low (over .base .full)) in
         rw e (record { stands = below-stands (at .root + 1) b 0 over low (over .base .full); left = top-left (at .root) b k refl ∙ sym (behind-base w at h) }))
         (λ k. let e : leafAfter at w ≡ theEnd = after-end w at none (row-false _ _ 0 (at .root) w k) in
         rw e (record { stands = end-standing w; left = come-end w theEnd refl ∙ sym (behind-base w at h ∙ from-done w (at .root) k) })))

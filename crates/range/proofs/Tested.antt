@@ -16,7 +16,8 @@ use Rattle.page.proofs.Pages.{lent-page, length-page}
 use Rattle.tree.specs.Tree.{wellFormed}
 use Rattle.tree.specs.declared.walk.Place.{Place}
 use Rattle.tree.proofs.Turn.{letter-page}
-use Rattle.range.specs.Reading.{place, theEnd, hasRow, hasTop, hasEntry, hasRecord, entryTo, firstBelow, leafAfter, settled, step, nothing, nextFrom, firstFrom, reached, startFrom}
+use Rattle.range.specs.Reading.{place, theEnd, hasRow, hasTop, hasEntry, hasRecord, entryTo, firstBelow, leafAfter, settled, step, nothing}
+use Rattle.range.specs.Reading.{nextFrom, firstFrom, reached, startFrom}
 
 all-last : (b : Bool) → all (b ∷ []) ≡ b
 unfolding all
@@ -66,7 +67,8 @@ module _ (c m p i : ℕ) (w : List ℕ) where
 pub row-true : (c m p i : ℕ) (w : List ℕ) → Rowed c m p i w → hasRow c m p i w ≡ true
 unfolding hasRow
 row-true c m p i w f =
-    all-true _ _ (lt-ltb p 64 (f .inside)) ∙ all-true _ _ (eq-eqb (letter (page p w)) c (f .lettered)) ∙ all-true _ _ (le-leb (count (page p w)) m (f .few)) ∙ all-true _ _ (lt-ltb i (count (page p w)) (f .here))
+    all-true _ _ (lt-ltb p 64 (f .inside)) ∙ all-true _ _ (eq-eqb (letter (page p w)) c (f .lettered)) ∙ all-true _ _ (le-leb (count (page p w)) m (f .few)) ∙
+    all-true _ _ (lt-ltb i (count (page p w)) (f .here))
     ∙ all-nil
 
 never : (a b c : Bool) → all (a ∷ b ∷ c ∷ false ∷ []) ≡ false

@@ -50,7 +50,8 @@ module _ {M : Type 1} (𝓤 : URA M) (H : Heap 𝓤) (A : Atoms 𝓤) (W : Given
   asks-nothing P = via 𝓤 (sep 𝓤 (emp 𝓤) P) (emp∗ 𝓤 P) (comm∗ 𝓤 (emp 𝓤) P)
 
   -- B is what is owned beside a result, Z what is said of it and of the last values
-  pub leaves : (P : SProp 𝓤) {X Y : Type 0} (B : X → SProp 𝓤) (Z : X → Y → SProp 𝓤) (x : X) (ws : Y) → ent 𝓤 P (sep 𝓤 (B x) (Z x ws)) → ent 𝓤 P (H .⇛ (ex 𝓤 (λ (x′ : X). sep 𝓤 (B x′) (ex 𝓤 (Z x′)))))
+  pub leaves : (P : SProp 𝓤) {X Y : Type 0} (B : X → SProp 𝓤) (Z : X → Y → SProp 𝓤) (x : X) (ws : Y) → ent 𝓤 P (sep 𝓤 (B x) (Z x ws)) → ent 𝓤 P
+      (H .⇛ (ex 𝓤 (λ (x′ : X). sep 𝓤 (B x′) (ex 𝓤 (Z x′)))))
   leaves P {X} B Z x ws e =
       let at-last = via 𝓤 (sep 𝓤 (B x) (Z x ws)) e (monoR 𝓤 (B x) (exI 𝓤 (Z x) ws)) in
       let at-result = via 𝓤 (sep 𝓤 (B x) (ex 𝓤 (Z x))) at-last (exI 𝓤 (λ (x′ : X). sep 𝓤 (B x′) (ex 𝓤 (Z x′))) x) in
@@ -71,20 +72,24 @@ module _ {M : Type 1} (𝓤 : URA M) (H : Heap 𝓤) (A : Atoms 𝓤) (W : Given
       let Q : Vals S κs → SProp 𝓤 = λ us. run (flat (typesAt (S .params) κs) us) (tripleOf 𝓤 H A S c .post ((κs, y .0 .1, y .0 .2, y .0 .3, us), y .1)) in
       via 𝓤 (sep 𝓤 P (wand 𝓤 P (Q (y .0 .4))))
       (via 𝓤 (sep 𝓤 (wand 𝓤 P (Q (y .0 .4))) P)
-      (monoL 𝓤 P (said 𝓤 H A S κs (y .0 .1) (sp κs) (tells κs) (y .0 .3) (λ us. wand 𝓤 P (Q us)) (y .0 .4) (λ are. wandI 𝓤 _ P _ (walk κs (y .0 .1) (y .0 .2) (y .0 .3) (y .1) are))))
+      (monoL 𝓤 P (said 𝓤 H A S κs (y .0 .1) (sp κs) (tells κs) (y .0 .3) (λ us. wand 𝓤 P (Q us)) (y .0 .4)
+      (λ are. wandI 𝓤 _ P _ (walk κs (y .0 .1) (y .0 .2) (y .0 .3) (y .1) are))))
       (comm∗ 𝓤 (wand 𝓤 P (Q (y .0 .4))) P))
       (apply∗ 𝓤 P (Q (y .0 .4)))
 
 -- ---- a function that calls one other
 module _ {M : Type 1} (𝓤 : URA M) (H : Heap 𝓤) where
   -- of the calls C the walk may use that they are monotone under a frame, and that the callee k′ meets the contract c′
-  abbrev pub WalksOver : (A : Atoms 𝓤) → Given 𝓤 H A → (S : Signature) → Spec 𝓤 S → Fn → ((κs : Lfts (S .lifetimes)) → Spells (typesAt (S .params) κs)) → Name → (S′ : Signature) → Spec 𝓤 S′ → Type 2
+  abbrev pub WalksOver : (A : Atoms 𝓤) → Given 𝓤 H A → (S : Signature) → Spec 𝓤 S → Fn → ((κs : Lfts (S .lifetimes)) → Spells (typesAt (S .params) κs)) → Name →
+      (S′ : Signature) → Spec 𝓤 S′ → Type 2
   WalksOver A W S c e sp k′ S′ c′ = (C : Calls 𝓤 H) (Λ : Loops 𝓤 H) → FmC 𝓤 H (W .laws) C → Triple 𝓤 (C k′) (tripleOf 𝓤 H A S′ c′) → Walk 𝓤 H A W S c (WpFn 𝓤 H C Λ e) sp
 
   -- γ says what the calls in the code e of the function k mean; r′ is the callee's routine
-  pub met-over : (𝓜 : Model 𝓤 H) (𝓖 : GhostRules 𝓤 H) (𝓡 : Running 𝓤 H 𝓜) (S : Signature) (c : Spec 𝓤 S) (γ : Env) (k : Name) (e : Fn) → Closed 𝓤 H (tables 𝓤 H 𝓜 𝓡 γ .C) (tables 𝓤 H 𝓜 𝓡 γ .Λ) k e
+  pub met-over : (𝓜 : Model 𝓤 H) (𝓖 : GhostRules 𝓤 H) (𝓡 : Running 𝓤 H 𝓜) (S : Signature) (c : Spec 𝓤 S) (γ : Env) (k : Name) (e : Fn) → Closed 𝓤 H
+      (tables 𝓤 H 𝓜 𝓡 γ .C) (tables 𝓤 H 𝓜 𝓡 γ .Λ) k e
       → (sp : (κs : Lfts (S .lifetimes)) → Spells (typesAt (S .params) κs)) → ((κs : Lfts (S .lifetimes)) → Tellss (typesAt (S .params) κs) (Ises (typesAt (S .params) κs)) (sp κs))
-      → (k′ : Name) (r′ : Routine) → γ k′ ≡ r′ → (S′ : Signature) (c′ : Spec 𝓤 S′) → Triple 𝓤 (𝓡 .run r′) (tripleOf 𝓤 H (𝓖 .A) S′ c′) → WalksOver (𝓖 .A) (givenOf 𝓤 H 𝓜 𝓖) S c e sp k′ S′ c′
+      → (k′ : Name) (r′ : Routine) → γ k′ ≡ r′ → (S′ : Signature) (c′ : Spec 𝓤 S′) → Triple 𝓤 (𝓡 .run r′) (tripleOf 𝓤 H (𝓖 .A) S′ c′) → WalksOver (𝓖 .A)
+      (givenOf 𝓤 H 𝓜 𝓖) S c e sp k′ S′ c′
       → Triple 𝓤 (tables 𝓤 H 𝓜 𝓡 γ .C k) (tripleOf 𝓤 H (𝓖 .A) S c)
   unfolding tablesOf
   met-over 𝓜 𝓖 𝓡 S c γ k e closed sp tells k′ r′ is S′ c′ met walk =

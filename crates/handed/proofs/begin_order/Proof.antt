@@ -54,7 +54,8 @@ module _ {M : Type 1} (𝓤 : URA M) (H : Heap 𝓤) (A : Atoms 𝓤) (W : Given
       (λ r ws. f.clauses 𝓤 H A mem run κs x .ensures tt r (atExit f.ended κs x (tt, ws)))
       -- what the callee ensures is what the call ensures
       (λ l r z. id⊢ 𝓤 _)
-      C Λ fm callee-def.name (tripleOf 𝓤 H A callee.signature (callee.spec 𝓤 H A mem run)) known (λ l. (((lifeOf l, κs), (fullShare, qs), tt, (lentRecord l n, x .1), (vptr (l .at) 0 ∷ [], vs .1)), tt)) (λ l. asks-nothing 𝓤 H A W _) (λ l u. id⊢ 𝓤 _)
+      C Λ fm callee-def.name (tripleOf 𝓤 H A callee.signature (callee.spec 𝓤 H A mem run)) known
+      (λ l. (((lifeOf l, κs), (fullShare, qs), tt, (lentRecord l n, x .1), (vptr (l .at) 0 ∷ [], vs .1)), tt)) (λ l. asks-nothing 𝓤 H A W _) (λ l u. id⊢ 𝓤 _)
       (lentShared (named 0) (x .1 .0) (are .1 .0 .0 .1) ∷ lentMut (named 1) (x .1 .1 .0) (are .1 .1 .0 .0 .1) ∷ []) _ (λ b. (tt, tt)) (λ l. refl))
 
 pub begin-order-spec : {M : Type 1} → stated.statement M

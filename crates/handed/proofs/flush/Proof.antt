@@ -55,13 +55,21 @@ module _ {M : Type 1} (𝓤 : URA M) (H : Heap 𝓤) (A : Atoms 𝓤) (W : Given
       (λ r ws. f.clauses 𝓤 H A mem run κs x .ensures tt r (atExit f.ended κs x (tt, ws)))
       -- what the callee ensures is what the call ensures
       (λ l r z. id⊢ 𝓤 _)
-      C Λ fm callee-def.name (tripleOf 𝓤 H A callee.signature (callee.spec 𝓤 H A mem run)) known (λ l. (((lifeOf l, κs), (fullShare, qs), tt, (lentRecord l n, x .1), (vptr (l .at) 0 ∷ [], vs .1)), tt)) (λ l. asks-nothing 𝓤 H A W _) (λ l u. id⊢ 𝓤 _)
-      (lentShared (named 0) (x .1 .0) (are .1 .0 .0 .1) ∷ lentMut (named 1) (x .1 .1 .0) (are .1 .1 .0 .0 .1) ∷ lentShared (named 2) (x .1 .1 .1 .0) (are .1 .1 .1 .0 .0 .1) ∷ number w32 tt (x .1 .1 .1 .1 .0) (are .1 .1 .1 .1 .0 .1) ∷ []) _ (λ b. (tt, tt)) (λ l. refl))
+      C Λ fm callee-def.name (tripleOf 𝓤 H A callee.signature (callee.spec 𝓤 H A mem run)) known
+      (λ l. (((lifeOf l, κs), (fullShare, qs), tt, (lentRecord l n, x .1), (vptr (l .at) 0 ∷ [], vs .1)), tt)) (λ l. asks-nothing 𝓤 H A W _) (λ l u. id⊢ 𝓤 _)
+      (lentShared (named 0) (x .1 .0) (are .1 .0 .0 .1) ∷ lentMut (named 1) (x .1 .1 .0) (are .1 .1 .0 .0 .1) ∷ lentShared (named 2) (x .1 .1 .1 .0)
+      (are .1 .1 .1 .0 .0 .1) ∷ number w32 tt (x .1 .1 .1 .1 .0) (are .1 .1 .1 .1 .0 .1) ∷ []) _ (λ b. (tt, tt)) (λ l. refl))
 
 pub flush-spec : {M : Type 1} → stated.statement M
 unfolding code.routine
 flush-spec 𝓤 H 𝓜 𝓖 𝓡 =
     met-over 𝓤 H 𝓜 𝓖 𝓡 f.signature (f.spec 𝓤 H (𝓖 .A) (𝓜 .mem) (𝓡 .run)) code.env key.name code.function (code.unfolded 𝓤 H 𝓜 𝓡) spelled
-    (λ κs. (SL.tells N.the-type N′.the-laws, (shr-slice-tells (named 0) (κs .0) u8, (mut-slice-tells (named 1) (κs .1 .0) u8, (shr-slice-tells (named 2) (κs .1 .1 .0) u8, (uint-tells w32, tt))))))
+    (λ κs. (
+      SL.tells N.the-type N′.the-laws,
+      (
+        shr-slice-tells (named 0) (κs .0) u8,
+        (mut-slice-tells (named 1) (κs .1 .0) u8, (shr-slice-tells (named 2) (κs .1 .1 .0) u8, (uint-tells w32, tt))),
+      ),
+    ))
     callee-def.name callee-def.routine code.calls-uhtlight·uhtlight-flush callee.signature (callee.spec 𝓤 H (𝓖 .A) (𝓜 .mem) (𝓡 .run)) (callee-thm.met 𝓤 H 𝓜 𝓖 𝓡)
     (walk 𝓤 H (𝓖 .A) (givenOf 𝓤 H 𝓜 𝓖) (𝓜 .mem) (𝓡 .run))

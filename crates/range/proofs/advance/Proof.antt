@@ -79,22 +79,28 @@ module _ {M : Type 1} (𝓤 : URA M) (H : Heap 𝓤) (A : Atoms 𝓤) (W : Given
       let a : Args core.signature (κs .1) = (h .pages, (h .at, tt)) in
       let y : Core .Ghost = ((κs .1, qs .1, tt, a, (sliceVal (h .pages .ptr) (length (h .pages .now)) ∷ [], (P′.lowered (h .at) ∷ [], tt))), tt) in
       let φ : Step → Type 0 = λ s. s ≡ nextFrom (now (h .pages)) (h .at) in
-      via 𝓤 _ (fst∗ 𝓤 _ (emp 𝓤)) (qed W ((‵ (flft (κs .0) (qs .0)) ⊛ raw (toks 𝓤 A 1 (κs .1) (qs .1))) ∷ ‵ (owns (typesAt (f.signature .params) κs) x vs) ∷ []) ∵ enter ! C Λ code.function _ _ $
+      via 𝓤 _ (fst∗ 𝓤 _ (emp 𝓤)) (qed W ((‵ (flft (κs .0) (qs .0)) ⊛ raw (toks 𝓤 A 1 (κs .1) (qs .1))) ∷ ‵ (owns (typesAt (f.signature .params) κs) x vs) ∷ [])
+      ∵ enter ! C Λ code.function _ _ $
       alloc1 ! (λ l0. alloc1 ! (λ l1. alloc1 ! (λ l2. alloc1 ! (λ l3. alloc1 ! (λ l4. alloc0 ! $ params1 ! $ pass1 ! (init ! 6 refl (tt, tt)) $ pass0 ! $
       move ! (11 ∷ []) $ fsplit ! $ fsplit3 ! $ drop ! $ move ! (13 ∷ []) $ split ! $ move ! (2 ∷ 3 ∷ 0 ∷ []) $
       opens ! tt (B κs) {h = h} b o (λ ws. spelt ! (B κs) (Is (B κs)) (shows 𝓤 H A (B κs)) (SL.vals D L) (SL.tells D L) fullShare h ws b o $
-      use1 W (‵ (fat fullShare (R′.mir erased) b o m)) (W .laws .raw-at fullShare (R′.mir erased) b o m) $ move ! (1 ∷ []) $ peeks ! (B κs) (Is (B κs)) (shows 𝓤 H A (B κs)) h (m ∷ []) (λ was.
+      use1 W (‵ (fat fullShare (R′.mir erased) b o m)) (W .laws .raw-at fullShare (R′.mir erased) b o m) $ move ! (1 ∷ []) $ peeks ! (B κs) (Is (B κs))
+      (shows 𝓤 H A (B κs)) h (m ∷ []) (λ was.
       let typed = SL.lawful Dᵉ Lᵉ 𝓤 H A W .typed h _ was .0 in
       -- [what the reader owns; its cell; the open borrow; obs; auth; 'a's token; true; _4; …; _3; …; _2; …; _1; …; _0; …]
-      assigns ! (of-opd ! (load ! (from ! (hop ! (look ! 13 refl) (fld ! refl (stop !)))) (look-in ! 1 (sub ! 0 refl (whole !))))) (from ! (stop !)) (init ! 9 refl (tt, typed .1 .0)) $
-      assigns ! (of-opd ! (load ! (from ! (hop ! (look ! 13 refl) (fld ! refl (stop !)))) (look-in ! 1 (sub ! 2 refl (whole !))))) (from ! (stop !)) (init ! 7 refl (tt, typed .1 .1 .1 .0)) $
+      assigns ! (of-opd ! (load ! (from ! (hop ! (look ! 13 refl) (fld ! refl (stop !)))) (look-in ! 1 (sub ! 0 refl (whole !))))) (from ! (stop !))
+      (init ! 9 refl (tt, typed .1 .0)) $
+      assigns ! (of-opd ! (load ! (from ! (hop ! (look ! 13 refl) (fld ! refl (stop !)))) (look-in ! 1 (sub ! 2 refl (whole !))))) (from ! (stop !))
+      (init ! 7 refl (tt, typed .1 .1 .1 .0)) $
       use1 W (‵ (B κs .own h (m ∷ [])) ⊛ ‵ (B κs .own h (m ∷ []))) (SL.copy D (R′.the-copy (namedLft 2 1 tt κs)) 𝓤 H A W .twice h (m ∷ [])) $ split ! $
       -- of one copy the pages and the position go to the core
-      use1 W (given (m ∷ [] ≡ m ∷ []) (‵ (all-own (D .parts) L (h .pages, (h .reply, (h .at, tt)))))) (own-open 𝓤 H A W D L (h .pages, (h .reply, (h .at, tt))) m) $ learn ! (λ _. fsplit ! $ move ! (1 ∷ []) $ fsplit ! $ drop ! $ move ! (1 ∷ 0 ∷ []) $ fjoin ! $
+      use1 W (given (m ∷ [] ≡ m ∷ []) (‵ (all-own (D .parts) L (h .pages, (h .reply, (h .at, tt))))))
+      (own-open 𝓤 H A W D L (h .pages, (h .reply, (h .at, tt))) m) $ learn ! (λ _. fsplit ! $ move ! (1 ∷ []) $ fsplit ! $ drop ! $ move ! (1 ∷ 0 ∷ []) $ fjoin ! $
       move ! (6 ∷ 0 ∷ []) $ use2 W (raw (Core .pre y)) (asks-nothing 𝓤 H A W _) $
       -- [what the core asks; what the reader owns; its cell; the open borrow; obs; auth; true; _4; …; _3; …; _2; …; _1; …; _0; …]
       calls-at ! fm Core known y (and-then ! (load ! (from ! (stop !)) (look ! 9 refl)) (and-then ! (load ! (from ! (stop !)) (look ! 7 refl)) (no-more !))) (λ u.
-      use1 W (later (some (λ (s : Step). (raw (toks 𝓤 A 1 (κs .1) (qs .1)) ⊛ ‵ (S.the-row .own s (u ∷ []))) ⊛ raw (ensured 𝓤 H A core.ended (core.clauses 𝓤 H A mem run) (κs .1) a tt s)))) (id⊢ 𝓤 _) $ await ! tt $ pick ! (λ s. split ! $
+      use1 W (later (some (λ (s : Step). (raw (toks 𝓤 A 1 (κs .1) (qs .1)) ⊛ ‵ (S.the-row .own s (u ∷ []))) ⊛ raw
+      (ensured 𝓤 H A core.ended (core.clauses 𝓤 H A mem run) (κs .1) a tt s)))) (id⊢ 𝓤 _) $ await ! tt $ pick ! (λ s. split ! $
       move ! (1 ∷ []) $ use1 W (raw (fact 𝓤 (φ s))) (exE 𝓤 _ (λ ws. snd∗ 𝓤 (sem 𝓤 H A (lasts core.ended (κs .1) a ws)) (fact 𝓤 (φ s)))) $ heard ! (φ s) (λ e. split ! $
       move ! (1 ∷ []) $ peeks ! S.the-row (Is S.the-row) (shows 𝓤 H A S.the-row) s (u ∷ []) (λ is.
       let fields = SL.owed S.the-type S′.the-laws s _ is in
@@ -103,20 +109,30 @@ module _ {M : Type 1} (𝓤 : URA M) (H : Heap 𝓤) (A : Atoms 𝓤) (W : Given
       let sv = SL.val S.the-type S′.the-laws s in
       rewrite ! 0 (λ (v : Val). ‵ (S.the-row .own s (v ∷ []))) (ap only (SL.tells S.the-type S′.the-laws s _ is)) refl $
       -- [what the step owns; 'a's token; what the reader owns; its cell; the open borrow; obs; auth; true; _4; …; _3; …; _2; …; _1; …; _0; …]
-      land ! (from ! (stop !)) (init ! 12 refl (SL.lawful S.the-type S′.the-laws 𝓤 H A W .typed s _ is .0)) $ rewrite ! 12 (λ (v : Val). ‵ (fat fullShare S′.mir l2 0 v)) (ap only (SL.tells S.the-type S′.the-laws s _ is)) refl $
-      assigns ! (of-opd ! (load ! (from ! (fld ! refl (stop !))) (look-in ! 12 (sub ! 3 refl (whole !))))) (from ! (hop ! (look ! 14 refl) (fld ! refl (stop !)))) (store-in ! 3 (sub ! 2 refl (whole !)) (SL.lawful P.the-type P′.the-laws 𝓤 H A W .typed (s .next) _ next-is .0)) $
+      land ! (from ! (stop !)) (init ! 12 refl (SL.lawful S.the-type S′.the-laws 𝓤 H A W .typed s _ is .0)) $ rewrite ! 12
+      (λ (v : Val). ‵ (fat fullShare S′.mir l2 0 v)) (ap only (SL.tells S.the-type S′.the-laws s _ is)) refl $
+      assigns ! (of-opd ! (load ! (from ! (fld ! refl (stop !))) (look-in ! 12 (sub ! 3 refl (whole !)))))
+      (from ! (hop ! (look ! 14 refl) (fld ! refl (stop !)))) (store-in ! 3 (sub ! 2 refl (whole !)) (SL.lawful P.the-type P′.the-laws 𝓤 H A W .typed (s .next) _ next-is .0)) $
       assigns ! (of-opd ! (load ! (from ! (stop !)) (look ! 12 refl))) (from ! (stop !)) (init ! 16 refl step-typed) $
       -- the reader is put together again, and the borrow is closed
-      move ! (2 ∷ []) $ use1 W (given (m ∷ [] ≡ m ∷ []) (‵ (all-own (D .parts) L (h .pages, (h .reply, (h .at, tt)))))) (own-open 𝓤 H A W D L (h .pages, (h .reply, (h .at, tt))) m) $ learn ! (λ _. fsplit ! $ nothing ! $ owned ! P.the-row (Is P.the-row) (SL.makes P.the-type P′.the-plain 𝓤 H A) (s .next) _ next-is $ fjoin ! $
-      owned ! u8 (Is u8) (uint-makes 𝓤 H A W w8) (h .reply) _ (SL.owed D L h _ was .1 .0) $ fjoin ! $ move ! (1 ∷ 0 ∷ []) $ fjoin ! $ use1 W (‵ (B κs .own (moved s) (R′.lowered (moved s) ∷ []))) (own-shut 𝓤 H A W D L (h .pages, (h .reply, (s .next, tt)))) $
-      move ! (4 ∷ []) $ use1 W (‵ (cellAt fullShare (B κs .mir) (R′.lowered (moved s) ∷ []) b o)) (W .laws .at-raw fullShare (R′.mir erased) b o (R′.lowered (moved s))) $ move ! (0 ∷ 1 ∷ 5 ∷ 6 ∷ 7 ∷ []) $ closes ! tt (B κs) (moved s) (R′.lowered (moved s) ∷ []) b o $
+      move ! (2 ∷ []) $ use1 W (given (m ∷ [] ≡ m ∷ []) (‵ (all-own (D .parts) L (h .pages, (h .reply, (h .at, tt))))))
+      (own-open 𝓤 H A W D L (h .pages, (h .reply, (h .at, tt))) m) $ learn !
+      (λ _. fsplit ! $ nothing ! $ owned ! P.the-row (Is P.the-row) (SL.makes P.the-type P′.the-plain 𝓤 H A) (s .next) _ next-is $ fjoin ! $
+      owned ! u8 (Is u8) (uint-makes 𝓤 H A W w8) (h .reply) _ (SL.owed D L h _ was .1 .0) $ fjoin ! $ move ! (1 ∷ 0 ∷ []) $ fjoin ! $ use1 W
+      (‵ (B κs .own (moved s) (R′.lowered (moved s) ∷ []))) (own-shut 𝓤 H A W D L (h .pages, (h .reply, (s .next, tt)))) $
+      move ! (4 ∷ []) $ use1 W (‵ (cellAt fullShare (B κs .mir) (R′.lowered (moved s) ∷ []) b o))
+      (W .laws .at-raw fullShare (R′.mir erased) b o (R′.lowered (moved s))) $ move ! (0 ∷ 1 ∷ 5 ∷ 6 ∷ 7 ∷ []) $ closes ! tt (B κs) (moved s) (R′.lowered (moved s) ∷ []) b o $
       -- [obs; the borrow; 's's token; the old numbers'; what the step owns; 'a's token; true; _4; …; _3; …; _2; …; _1; …; _0; …]
       use1 W (‵ (fres (x .0 .name) (B κs .coded .code (moved s)))) (W .names .obs-res (x .0 .name) (B κs .coded .code (moved s))) $ nothing ! $ move ! (1 ∷ 0 ∷ []) $ fjoin ! $
-      use0 W (raw (f.clauses 𝓤 H A mem run κs x .ensures tt s (atExit f.ended κs x (moved s, tt)))) (factI 𝓤 _ (emp 𝓤) (e, refl, refl, refl)) $ move ! (1 ∷ 0 ∷ []) $ join ! $ move ! (2 ∷ 5 ∷ []) $ join ! $ move ! (0 ∷ 4 ∷ []) $ join ! $
+      use0 W (raw (f.clauses 𝓤 H A mem run κs x .ensures tt s (atExit f.ended κs x (moved s, tt)))) (factI 𝓤 _ (emp 𝓤) (e, refl, refl, refl)) $ move !
+      (1 ∷ 0 ∷ []) $ join ! $ move ! (2 ∷ 5 ∷ []) $ join ! $ move ! (0 ∷ 4 ∷ []) $ join ! $
       use2 W (raw (tripleOf 𝓤 H A f.signature (f.spec 𝓤 H A mem run) .post ((κs, qs, bounds, x, vs), tt) sv))
-      (leaves 𝓤 H A W _ (λ (s′ : Step). sep 𝓤 (sep 𝓤 (A .lft (κs .0) (qs .0)) (toks 𝓤 A 1 (κs .1) (qs .1))) (sem 𝓤 H A (S.the-row .own s′ (sv ∷ [])))) (λ (s′ : Step) (ws : RangeReader × Unit {0}). sep 𝓤 (sem 𝓤 H A (lasts f.ended κs x ws)) (f.clauses 𝓤 H A mem run κs x .ensures tt s′ (atExit f.ended κs x ws))) s (moved s, tt) (id⊢ 𝓤 _)) $
+      (leaves 𝓤 H A W _ (λ (s′ : Step). sep 𝓤 (sep 𝓤 (A .lft (κs .0) (qs .0)) (toks 𝓤 A 1 (κs .1) (qs .1))) (sem 𝓤 H A (S.the-row .own s′ (sv ∷ []))))
+      (λ (s′ : Step) (ws : RangeReader × Unit {0}). sep 𝓤 (sem 𝓤 H A (lasts f.ended κs x ws))
+      (f.clauses 𝓤 H A mem run κs x .ensures tt s′ (atExit f.ended κs x ws))) s (moved s, tt) (id⊢ 𝓤 _)) $
       -- [post; the borrow; the old numbers'; true; _4; …; _3; …; _2; …; _1; …; _0; …]
-      returns ! (look ! 12 refl) $ keep ! (12 ∷ 13 ∷ 10 ∷ 11 ∷ 8 ∷ 9 ∷ 6 ∷ 7 ∷ 4 ∷ 5 ∷ 0 ∷ []) $ releases ! (code.function .locals) (l0, (l1, (l2, (l3, (l4, tt))))) (_, (_, (_, (_, (_, tt)))))))))))))))))))
+      returns ! (look ! 12 refl) $ keep ! (12 ∷ 13 ∷ 10 ∷ 11 ∷ 8 ∷ 9 ∷ 6 ∷ 7 ∷ 4 ∷ 5 ∷ 0 ∷ []) $ releases ! (code.function .locals)
+      (l0, (l1, (l2, (l3, (l4, tt))))) (_, (_, (_, (_, (_, tt)))))))))))))))))))
 
 pub advance-spec : {M : Type 1} → stated.statement M
 unfolding code.routine

@@ -65,25 +65,36 @@ module _ {M : Type 1} (𝓤 : URA M) (H : Heap 𝓤) (A : Atoms 𝓤) (W : Given
       let made : Reached → RangeReader = λ s. record { pages = x .0; reply = s .reply; at = s .at } in
       let said : RangeReader → SProp 𝓤 = λ r. ensured 𝓤 H A f.ended (f.clauses 𝓤 H A mem run) κs x tt r in
       via 𝓤 _ (fst∗ 𝓤 _ (emp 𝓤)) (qed W (raw (toks 𝓤 A 1 κs qs) ∷ ‵ (owns (typesAt (f.signature .params) κs) x vs) ∷ []) ∵ enter ! C Λ code.function _ _ $
-      alloc1 ! (λ l0. alloc1 ! (λ l1. alloc1 ! (λ l2. alloc1 ! (λ l3. alloc0 ! $ params1 ! $ pass1 ! (init ! 4 refl typed) $ pass1 ! (init ! 2 refl (uint-lawful 𝓤 H A W w32 .typed (x .1 .0) _ (are .1 .0) .0)) $ pass0 ! $
-      move ! (9 ∷ []) $ fsplit ! $ use1 W (‵ (pages .own (x .0) (vs .0)) ⊛ ‵ (pages .own (x .0) (vs .0))) (shr-slice-copy 𝓤 H A W (named 0) (κs .0) u8 .twice (x .0) (vs .0)) $ split ! $
+      alloc1 ! (λ l0. alloc1 ! (λ l1. alloc1 ! (λ l2. alloc1 !
+      (λ l3. alloc0 ! $ params1 ! $ pass1 ! (init ! 4 refl typed) $ pass1 ! (init ! 2 refl (uint-lawful 𝓤 H A W w32 .typed (x .1 .0) _ (are .1 .0) .0)) $ pass0 ! $
+      move ! (9 ∷ []) $ fsplit ! $ use1 W (‵ (pages .own (x .0) (vs .0)) ⊛ ‵ (pages .own (x .0) (vs .0)))
+      (shr-slice-copy 𝓤 H A W (named 0) (κs .0) u8 .twice (x .0) (vs .0)) $ split ! $
       move ! (0 ∷ 2 ∷ []) $ fjoin ! $ move ! (10 ∷ 0 ∷ []) $ use2 W (raw (Core .pre y)) (asks-nothing 𝓤 H A W _) $
       -- [what the core asks; what the pages own; room for _3; …; _2; …; _1; …; room for _0; …]
       calls-at ! fm Core known y (and-then ! (load ! (from ! (stop !)) (look ! 6 refl)) (and-then ! (load ! (from ! (stop !)) (look ! 4 refl)) (no-more !))) (λ u.
-      use1 W (later (some (λ (s : Reached). (raw (toks 𝓤 A 1 κs qs) ⊛ ‵ (S.the-row .own s (u ∷ []))) ⊛ raw (ensured 𝓤 H A core.ended (core.clauses 𝓤 H A mem run) κs x tt s)))) (id⊢ 𝓤 _) $ await ! tt $ pick ! (λ s. split ! $ split ! $
+      use1 W (later (some (λ (s : Reached). (raw (toks 𝓤 A 1 κs qs) ⊛ ‵ (S.the-row .own s (u ∷ []))) ⊛ raw
+      (ensured 𝓤 H A core.ended (core.clauses 𝓤 H A mem run) κs x tt s)))) (id⊢ 𝓤 _) $ await ! tt $ pick ! (λ s. split ! $ split ! $
       move ! (1 ∷ []) $ peeks ! S.the-row (Is S.the-row) (shows 𝓤 H A S.the-row) s (u ∷ []) (λ is. drop ! $
       let fields = SL.owed S.the-type S′.the-laws s _ is in
       let at-typed = SL.lawful P.the-type P′.the-laws 𝓤 H A W .typed (s .at) _ (fields .1 .0) .0 in
       -- [the token; what the core ensures; what the pages own; room for _3; …; _2; …; _1; …; room for _0; …]
-      land ! (from ! (stop !)) (init ! 3 refl (SL.lawful S.the-type S′.the-laws 𝓤 H A W .typed s _ is .0)) $ rewrite ! 3 (λ (v : Val). ‵ (fat fullShare S′.mir l3 0 v)) (ap only (SL.tells S.the-type S′.the-laws s _ is)) refl $
-      assigns ! (agg ! (and-then ! (load ! (from ! (stop !)) (look ! 7 refl)) (and-then ! (load ! (from ! (fld ! refl (stop !))) (look-in ! 3 (sub ! 0 refl (whole !)))) (and-then ! (load ! (from ! (fld ! refl (stop !))) (look-in ! 3 (sub ! 1 refl (whole !)))) (no-more !)))))
+      land ! (from ! (stop !)) (init ! 3 refl (SL.lawful S.the-type S′.the-laws 𝓤 H A W .typed s _ is .0)) $ rewrite ! 3
+      (λ (v : Val). ‵ (fat fullShare S′.mir l3 0 v)) (ap only (SL.tells S.the-type S′.the-laws s _ is)) refl $
+      assigns ! (agg ! (and-then ! (load ! (from ! (stop !)) (look ! 7 refl))
+      (and-then ! (load ! (from ! (fld ! refl (stop !))) (look-in ! 3 (sub ! 0 refl (whole !))))
+      (and-then ! (load ! (from ! (fld ! refl (stop !))) (look-in ! 3 (sub ! 1 refl (whole !)))) (no-more !)))))
       (from ! (stop !)) (init ! 9 refl (tt, (typed .1, (record { fits = fields .0 .1 }, (at-typed .1, tt))))) $ returns ! (look ! 9 refl) $
       -- the reader is put together
-      move ! (2 ∷ []) $ nothing ! $ owned ! P.the-row (Is P.the-row) (SL.makes P.the-type P′.the-plain 𝓤 H A) (s .at) _ (fields .1 .0) $ fjoin ! $ owned ! u8 (Is u8) (uint-makes 𝓤 H A W w8) (s .reply) _ (fields .0) $ fjoin ! $ move ! (1 ∷ 0 ∷ []) $ fjoin ! $
+      move ! (2 ∷ []) $ nothing ! $ owned ! P.the-row (Is P.the-row) (SL.makes P.the-type P′.the-plain 𝓤 H A) (s .at) _ (fields .1 .0) $ fjoin ! $ owned ! u8
+      (Is u8) (uint-makes 𝓤 H A W w8) (s .reply) _ (fields .0) $ fjoin ! $ move ! (1 ∷ 0 ∷ []) $ fjoin ! $
       use1 W (‵ (B .own (made s) (R′.lowered (made s) ∷ []))) (own-shut 𝓤 H A W D L (x .0, (s .reply, (s .at, tt)))) $
       -- what the core ensures of its answer, the reader has
-      move ! (2 ∷ []) $ use1 W (raw (said (made s))) (says-so 𝓤 H A W (lasts core.ended κs x) (λ ws. core.clauses 𝓤 H A mem run κs x .ensures tt s (atExit core.ended κs x ws)) (lasts f.ended κs x) (λ ws. f.clauses 𝓤 H A mem run κs x .ensures tt (made s) (atExit f.ended κs x ws)) (tt, (tt, tt)) (none-said 𝓤 H A W) (λ ws. becomes 𝓤 H A W (λ e. (refl, ap (λ (z : Reached). z .reply) e, ap (λ (z : Reached). z .at) e)))) $
-      move ! (2 ∷ 1 ∷ []) $ join ! $ use2 W (raw (tripleOf 𝓤 H A f.signature (f.spec 𝓤 H A mem run) .post ((κs, qs, bounds, x, vs), tt) (R′.lowered (made s)))) (gives 𝓤 H A W (λ (r : RangeReader). sep 𝓤 (toks 𝓤 A 1 κs qs) (sem 𝓤 H A (B .own r (R′.lowered (made s) ∷ [])))) said (made s)) $
+      move ! (2 ∷ []) $ use1 W (raw (said (made s))) (says-so 𝓤 H A W (lasts core.ended κs x)
+      (λ ws. core.clauses 𝓤 H A mem run κs x .ensures tt s (atExit core.ended κs x ws)) (lasts f.ended κs x)
+      (λ ws. f.clauses 𝓤 H A mem run κs x .ensures tt (made s) (atExit f.ended κs x ws)) (tt, (tt, tt)) (none-said 𝓤 H A W)
+      (λ ws. becomes 𝓤 H A W (λ e. (refl, ap (λ (z : Reached). z .reply) e, ap (λ (z : Reached). z .at) e)))) $
+      move ! (2 ∷ 1 ∷ []) $ join ! $ use2 W (raw (tripleOf 𝓤 H A f.signature (f.spec 𝓤 H A mem run) .post ((κs, qs, bounds, x, vs), tt) (R′.lowered (made s))))
+      (gives 𝓤 H A W (λ (r : RangeReader). sep 𝓤 (toks 𝓤 A 1 κs qs) (sem 𝓤 H A (B .own r (R′.lowered (made s) ∷ [])))) said (made s)) $
       -- [post; _3; …; _2; …; _1; …; _0; …]
       keep ! (7 ∷ 8 ∷ 5 ∷ 6 ∷ 3 ∷ 4 ∷ 1 ∷ 2 ∷ 0 ∷ []) $ releases ! (code.function .locals) (l0, (l1, (l2, (l3, tt)))) (_, (_, (_, (_, tt))))))))))))
 

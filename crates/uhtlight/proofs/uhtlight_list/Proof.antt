@@ -53,13 +53,22 @@ module _ {M : Type 1} (𝓤 : URA M) (H : Heap 𝓤) (A : Atoms 𝓤) (W : Given
       (λ r z. f.clauses 𝓤 H A mem run κs x .ensures tt r (atExit f.ended κs x z))
       -- what the core ensures is what the call ensures
       (λ r ws. id⊢ 𝓤 _)
-      C Λ fm core-def.name (tripleOf 𝓤 H A core.signature (core.spec 𝓤 H A mem run)) known ((κs .1, qs .1, tt, (n .now, x .1), (N′.lowered (n .now) ∷ [], vs .1)), tt) (asks-nothing 𝓤 H A W _) (λ u. id⊢ 𝓤 _)
-      (lentShared (named 1) (x .1 .0) (are .1 .0 .0 .1) ∷ lentShared (named 2) (x .1 .1 .0) (are .1 .1 .0 .0 .1) ∷ number w32 tt (x .1 .1 .1 .0) (are .1 .1 .1 .0 .1) ∷ number w32 tt (x .1 .1 .1 .1 .0) (are .1 .1 .1 .1 .0 .1) ∷ lentMut (named 3) (x .1 .1 .1 .1 .1 .0) (are .1 .1 .1 .1 .1 .0 .0 .1) ∷ []) _ (tt, tt) refl)
+      C Λ fm core-def.name (tripleOf 𝓤 H A core.signature (core.spec 𝓤 H A mem run)) known
+      ((κs .1, qs .1, tt, (n .now, x .1), (N′.lowered (n .now) ∷ [], vs .1)), tt) (asks-nothing 𝓤 H A W _) (λ u. id⊢ 𝓤 _)
+      (lentShared (named 1) (x .1 .0) (are .1 .0 .0 .1) ∷ lentShared (named 2) (x .1 .1 .0) (are .1 .1 .0 .0 .1) ∷ number w32 tt (x .1 .1 .1 .0)
+      (are .1 .1 .1 .0 .1) ∷ number w32 tt (x .1 .1 .1 .1 .0) (are .1 .1 .1 .1 .0 .1) ∷ lentMut (named 3) (x .1 .1 .1 .1 .1 .0)
+      (are .1 .1 .1 .1 .1 .0 .0 .1) ∷ []) _ (tt, tt) refl)
 
 pub uhtlight-list-spec : {M : Type 1} → stated.statement M
 unfolding code.routine
 uhtlight-list-spec 𝓤 H 𝓜 𝓖 𝓡 =
     met-over 𝓤 H 𝓜 𝓖 𝓡 f.signature (f.spec 𝓤 H (𝓖 .A) (𝓜 .mem) (𝓡 .run)) code.env key.name code.function (code.unfolded 𝓤 H 𝓜 𝓡) spelled
-    (λ κs. (mut-tells (named 0) (κs .0) N.the-row, (shr-slice-tells (named 1) (κs .1 .0) u8, (shr-slice-tells (named 2) (κs .1 .1 .0) u8, (uint-tells w32, (uint-tells w32, (mut-slice-tells (named 3) (κs .1 .1 .1 .0) u8, tt)))))))
+    (λ κs. (
+      mut-tells (named 0) (κs .0) N.the-row,
+      (
+        shr-slice-tells (named 1) (κs .1 .0) u8,
+        (shr-slice-tells (named 2) (κs .1 .1 .0) u8, (uint-tells w32, (uint-tells w32, (mut-slice-tells (named 3) (κs .1 .1 .1 .0) u8, tt)))),
+      ),
+    ))
     core-def.name core-def.routine code.calls-answering·list core.signature (core.spec 𝓤 H (𝓖 .A) (𝓜 .mem) (𝓡 .run)) (core-thm.met 𝓤 H 𝓜 𝓖 𝓡)
     (walk 𝓤 H (𝓖 .A) (givenOf 𝓤 H 𝓜 𝓖) (𝓜 .mem) (𝓡 .run))

@@ -52,7 +52,8 @@ module _ {M : Type 1} (𝓤 : URA M) (H : Heap 𝓤) (A : Atoms 𝓤) (W : Given
       (λ r z. f.clauses 𝓤 H A mem run κs x .ensures tt r (atExit f.ended κs x z))
       -- what the core ensures is what the call ensures
       (λ r ws. id⊢ 𝓤 _)
-      C Λ fm core-def.name (tripleOf 𝓤 H A core.signature (core.spec 𝓤 H A mem run)) known ((κs .1, qs .1, tt, (n .now, x .1), (N′.lowered (n .now) ∷ [], vs .1)), tt) (asks-nothing 𝓤 H A W _) (λ u. id⊢ 𝓤 _)
+      C Λ fm core-def.name (tripleOf 𝓤 H A core.signature (core.spec 𝓤 H A mem run)) known
+      ((κs .1, qs .1, tt, (n .now, x .1), (N′.lowered (n .now) ∷ [], vs .1)), tt) (asks-nothing 𝓤 H A W _) (λ u. id⊢ 𝓤 _)
       (lentMut (named 1) (x .1 .0) (are .1 .0 .0 .1) ∷ lentMut (named 2) (x .1 .1 .0) (are .1 .1 .0 .0 .1) ∷ []) _ (tt, tt) refl)
 
 pub uhtlight-step-spec : {M : Type 1} → stated.statement M

@@ -26,8 +26,9 @@ end-requires c κs = search needs
 
 returns-2 : tie.Need-returns-2
 returns-2 c =
+    let c4 = c .before .before .before .before in
     c .end .ensures
-    ∙ sym (after-end _ _ (sym (c .before .before .before .before .has-row .ensures) ∙ c .before .before .before .if1 .left) (sym (c .before .before .has-row2 .ensures) ∙ not-true _ (c .before .if2 .taken)))
+    ∙ sym (after-end _ _ (sym (c4 .has-row .ensures) ∙ c .before .before .before .if1 .left) (sym (c .before .before .has-row2 .ensures) ∙ not-true _ (c .before .if2 .taken)))
 
 entry-to-requires : tie.Need-entry-to-requires
 entry-to-requires c κs =
@@ -42,9 +43,13 @@ end-requires-2 c κs = search needs
 
 returns-3 : tie.Need-returns-3
 returns-3 c =
+    let c4 = c .before .before .before .before in
+    let c5 = c4 .before in
+    let c6 = c5 .before in
+    let c7 = c6 .before in
     c .end2 .ensures
-    ∙ sym (after-bare _ _ (sym (c .before .before .before .before .before .before .before .has-row .ensures) ∙ c .before .before .before .before .before .before .if1 .left)
-    (sym (c .before .before .before .before .before .has-row2 .ensures) ∙ not-false _ (c .before .before .before .before .if2 .left)) _ (c .before .before .before .entry-to .ensures)
+    ∙ sym (after-bare _ _ (sym (c7 .has-row .ensures) ∙ c6 .if1 .left)
+    (sym (c5 .has-row2 .ensures) ∙ not-false _ (c4 .if2 .left)) _ (c .before .before .before .entry-to .ensures)
     (sym (c .before .before .has-row3 .ensures) ∙ not-true _ (c .before .if3 .taken)))
 
 add-first-below : tie.Need-add-first-below
@@ -59,9 +64,14 @@ first-below-requires-2 c κs =
 
 returns-4 : tie.Need-returns-4
 returns-4 c =
+    let c4 = c .before .before .before .before in
+    let c5 = c4 .before in
+    let c6 = c5 .before in
+    let c7 = c6 .before in
+    let c8 = c7 .before in
     c .first-below2 .ensures
-    ∙ sym (after-top _ _ (sym (c .before .before .before .before .before .before .before .before .has-row .ensures) ∙ c .before .before .before .before .before .before .before .if1 .left)
-    (sym (c .before .before .before .before .before .before .has-row2 .ensures) ∙ not-false _ (c .before .before .before .before .before .if2 .left)) _ (c .before .before .before .before .entry-to .ensures)
+    ∙ sym (after-top _ _ (sym (c8 .has-row .ensures) ∙ c7 .if1 .left)
+    (sym (c6 .has-row2 .ensures) ∙ not-false _ (c5 .if2 .left)) _ (c4 .entry-to .ensures)
     (sym (c .before .before .before .has-row3 .ensures) ∙ not-false _ (c .before .before .if3 .left)))
 
 pub leaf-after-spec : {M : Type 1} → statement M

@@ -55,7 +55,13 @@ loop-less : tie.Need-loop-less Inv-loop μ-loop
 loop-less c = omega arith
 
 loop-again : tie.Need-loop-again Inv-loop μ-loop
-loop-again c = (omega arith, room (c .before .before), passed-more! _ _ _ _ _ _ _ (c .before .before .before .loop .inv .2) (c .before .before .loop-test .taken) (c .before .before .before .before .before .before .pre .1) _ (c .before .get4 .ensures) (c .if1 .left))
+loop-again c =
+    let c6 = c .before .before .before .before .before .before in (
+      omega arith,
+      room (c .before .before),
+      passed-more! _ _ _ _ _ _ _ (c .before .before .before .loop .inv .2) (c .before .before .loop-test .taken)
+          (c6 .pre .1) _ (c .before .get4 .ensures) (c .if1 .left),
+    )
 
 returns-2 : tie.Need-returns-2 Inv-loop μ-loop
 returns-2 c = search passed-end!

@@ -17,11 +17,16 @@ over : (c : tie.After-entry-to) → Over (c .before .before .before .before .arg
 over c = top-over _ (c .before .before .before .before .pre) _ _ (c .before .before .rows-below-at .ensures) (some (c .before)) _ (c .entry-to .ensures)
 
 low : (c : tie.After-rows-below-at2) → 0 < c .rows-below-at2 .result
-low c = base-some _ (c .before .before .before .before .before .pre) _ _ (c .before .before .before .rows-below-at .ensures) (some (c .before .before)) _ (c .before .entry-to .ensures) _ (c .rows-below-at2 .ensures)
+low c =
+    let c5 = c .before .before .before .before .before in
+    base-some _ (c5 .pre) _ _ (c .before .before .before .rows-below-at .ensures) (some (c .before .before)) _ (c .before .entry-to .ensures) _ (c .rows-below-at2 .ensures)
 
 spot : (c : tie.After-entry-to2) → Spot 16 (c .before .before .before .before .before .before .args .w .now) (c .entry-to2 .result)
 spot c =
-    base-spot _ (c .before .before .before .before .before .before .pre) _ _ (c .before .before .before .before .rows-below-at .ensures) (some (c .before .before .before)) _ (c .before .before .entry-to .ensures) _ (c .before .rows-below-at2 .ensures) _ (c .entry-to2 .ensures)
+    let c4 = c .before .before .before .before in
+    let c6 = c4 .before .before in
+    base-spot _ (c6 .pre) _ _ (c4 .rows-below-at .ensures) (some (c .before .before .before)) _ (c .before .before .entry-to .ensures) _
+    (c .before .rows-below-at2 .ensures) _ (c .entry-to2 .ensures)
 
 add-past : tie.Need-add-past
 add-past c = search needs
@@ -56,7 +61,12 @@ entry-to-requires-2 c κs =
       a .pre .form .whole,
       o .base .inside,
       omega (arith, o .base .fits),
-      omega (arith, low c, base-few _ (a .pre) _ _ (c .before .before .before .rows-below-at .ensures) (some (c .before .before)) _ (c .before .entry-to .ensures) _ (c .rows-below-at2 .ensures)),
+      omega (
+        arith,
+        low c,
+        base-few _ (a .pre) _ _ (c .before .before .before .rows-below-at .ensures) (some (c .before .before)) _
+            (c .before .entry-to .ensures) _ (c .rows-below-at2 .ensures),
+      ),
     )
 
 rows-below-at-requires-3 : tie.Need-rows-below-at-requires-3
@@ -67,8 +77,13 @@ settled-requires c κs = search needs
 
 returns-2 : tie.Need-returns-2
 returns-2 c =
+    let c4 = c .before .before .before .before in
+    let c5 = c4 .before in
+    let c6 = c5 .before in
+    let c8 = c6 .before .before in
     c .settled .ensures
-    ∙ sym (seek-at _ (c .before .before .before .before .before .before .before .before .pre) _ _ (c .before .before .before .before .before .before .rows-below-at .ensures) (some (c .before .before .before .before .before)) _ (c .before .before .before .before .entry-to .ensures) _ (c .before .before .before .rows-below-at2 .ensures) _ (c .before .before .entry-to2 .ensures) _ (c .before .rows-below-at3 .ensures))
+    ∙ sym (seek-at _ (c8 .pre) _ _ (c6 .rows-below-at .ensures) (some c5) _ (c4 .entry-to .ensures) _ (c .before .before .before .rows-below-at2 .ensures) _
+    (c .before .before .entry-to2 .ensures) _ (c .before .rows-below-at3 .ensures))
 
 pub seek-spec : {M : Type 1} → statement M
 seek-spec =

@@ -21,7 +21,8 @@ refused-requires-2 : tie.Need-refused-requires-2
 refused-requires-2 c κs = search needs
 
 returns-2 : tie.Need-returns-2
-returns-2 c = c .refused2 .ensures ∙ sym (start-broken _ _ (c .before .before .before .if1 .left) (sym (c .before .before .all-formed .ensures) ∙ not-true _ (c .before .if2 .taken)))
+returns-2 c = c .refused2 .ensures ∙ sym (start-broken _ _ (c .before .before .before .if1 .left)
+    (sym (c .before .before .all-formed .ensures) ∙ not-true _ (c .before .if2 .taken)))
 
 well-formed-requires : tie.Need-well-formed-requires
 well-formed-requires c κs = record { whole = c .before .before .if1 .left; forms = sym (c .before .all-formed .ensures) ∙ not-false _ (c .if2 .left) }
@@ -31,14 +32,18 @@ refused-requires-3 c κs = search needs
 
 returns-3 : tie.Need-returns-3
 returns-3 c =
+    let c4 = c .before .before .before .before in
+    let c5 = c4 .before in
     c .refused3 .ensures
-    ∙ sym (start-unwell _ _ (c .before .before .before .before .before .if1 .left) (sym (c .before .before .before .before .all-formed .ensures) ∙ not-false _ (c .before .before .before .if2 .left)) (sym (c .before .before .well-formed .ensures) ∙ not-true _ (c .before .if3 .taken)))
+    ∙ sym (start-unwell _ _ (c5 .if1 .left) (sym (c4 .all-formed .ensures) ∙ not-false _ (c .before .before .before .if2 .left))
+    (sym (c .before .before .well-formed .ensures) ∙ not-true _ (c .before .if3 .taken)))
 
 -- the pages are a well-formed tree
 sound : (c : tie.Else3) → Sound (c .before .before .before .before .before .before .args .pages .now)
 sound c =
+    let c4 = c .before .before .before .before in
     record {
-      form = record { whole = c .before .before .before .before .if1 .left; forms = sym (c .before .before .before .all-formed .ensures) ∙ not-false _ (c .before .before .if2 .left) };
+      form = record { whole = c4 .if1 .left; forms = sym (c .before .before .before .all-formed .ensures) ∙ not-false _ (c .before .before .if2 .left) };
       well = sym (c .before .well-formed .ensures) ∙ not-false _ (c .if3 .left);
     }
 

@@ -8,7 +8,8 @@ use Rattle.range.proofs.steps.step_at.Statement.{statement}
 use Rattle.range.proofs.steps.step_at.Tie as tie
 
 -- the record that is read
-there : (c : tie.After-struct-known2) → Rowed 108 15 (c .before .before .before .before .before .before .before .args .at .leaf) (c .before .before .before .before .before .before .before .args .at .row) (c .before .before .before .before .before .before .before .args .pages .now)
+there : (c : tie.After-struct-known2) → let c7 = c .before .before .before .before .before .before .before in
+    Rowed 108 15 (c7 .args .at .leaf) (c7 .args .at .row) (c7 .args .pages .now)
 there c = row-facts _ _ _ _ _ (sym (c .before .before .has-row .ensures) ∙ not-false _ (c .before .if3 .left))
 
 nothing-requires : tie.Need-nothing-requires
@@ -31,8 +32,9 @@ nothing-requires-3 c κs = search needs
 
 returns-3 : tie.Need-returns-3
 returns-3 c =
+    let c5 = c .before .before .before .before .before in
     c .nothing3 .ensures
-    ∙ sym (next-bare _ _ (c .before .before .before .before .before .if1 .left) (omega (arith, c .before .before .before .if2 .left)) (sym (c .before .before .has-row .ensures) ∙ not-true _ (c .before .if3 .taken)))
+    ∙ sym (next-bare _ _ (c5 .if1 .left) (omega (arith, c .before .before .before .if2 .left)) (sym (c .before .before .has-row .ensures) ∙ not-true _ (c .before .if3 .taken)))
 
 mul-p : tie.Need-mul-p
 mul-p c = omega (arith, there c .inside)
@@ -75,8 +77,13 @@ settled-requires c κs = search needs
 
 returns-4 : tie.Need-returns-4
 returns-4 c =
-    next-read _ _ (c .before .before .before .before .before .before .before .before .before .before .before .if1 .left) (omega (arith, c .before .before .before .before .before .before .before .before .before .if2 .left)) (sym (c .before .before .before .before .before .before .before .before .has-row .ensures) ∙ not-false _ (c .before .before .before .before .before .before .before .if3 .left)) _ _ _ _ refl
-    (c .before .before .before .before .row-key .ensures) (c .before .before .record-value .ensures) (c .settled .ensures)
+    let c4 = c .before .before .before .before in
+    let c7 = c4 .before .before .before in
+    let c8 = c7 .before in
+    let c9 = c8 .before in
+    let c11 = c9 .before .before in
+    next-read _ _ (c11 .if1 .left) (omega (arith, c9 .if2 .left)) (sym (c8 .has-row .ensures) ∙ not-false _ (c7 .if3 .left)) _ _ _ _ refl
+    (c4 .row-key .ensures) (c .before .before .record-value .ensures) (c .settled .ensures)
 
 pub step-at-spec : {M : Type 1} → statement M
 step-at-spec =

@@ -261,7 +261,8 @@ module _ {M : Type 1} (𝓤 : URA M) (H : Heap 𝓤) (A : Atoms 𝓤) (W : Given
           (fdies (answerTy (S .ν) (S .τ)) l₀) ∷ [] in
           let five : Items → Items = λ Γ. ‵ (fat fullShare τp lP 0 (vptr lM 0)) ∷ ‵ (froom (S .τ) lX 0) ∷ ‵ (froom N′.mir lB 0) ∷ ‵
           (froom (answerTy (S .ν) (S .τ)) l₀ 0) ∷ ‵ (fat fullShare N′.mir l₁ 0 (N′.lowered h)) ∷ Γ in
-          -- [the loans' rooms; room for the pointer; dies; for the record come back; dies; for the result; dies; for the record; dies; the others' rooms; for n; dies; for the answer; dies; what is held]
+          -- [the loans' rooms; room for the pointer; dies; for the record come back; dies; for the result; dies; for the record; dies;
+          -- the others' rooms; for n; dies; for the answer; dies; what is held]
           params1 ! $ pass1 ! (init ! 10 refl (SL.lawful N.the-type N′.the-laws 𝓤 H A W .typed h _ is .0)) $ move ! (9 ∷ []) $ passes-own 𝓤 H A W _ os us _ _
           (move ! (14 ∷ 8 ∷ 2 ∷ 6 ∷ 4 ∷ 12 ∷ 10 ∷ []) $
           body-runs E (suc (suc (behind os 0))) (suc (suc (behind os 1))) (suc (suc (behind os 2))) (suc (suc (behind os 3))) lM lX lB lP l₀ l₁ τp (typed-p lM)

@@ -120,7 +120,8 @@ pub fn find(n: Numbers, work: &[u8], log: &[u8], key: u32) -> FindAnswer
 
 // The records whose keys are low to high, both included, written to out as far as they fit whole.
 pub fn list(n: Numbers, work: &[u8], log: &[u8], low: u32, high: u32, out: &mut [u8]) -> ListAnswer
-    ensures listed { λ r. ⌜ left (r .listed .reply) (r .listed .count ∷ pick (r .listed .more) 1 0 ∷ []) (lent (r .numbers .used) (r .numbers .forced) (now (work .entry)) [] (now (log .entry)) (now (out .exit)))
+    ensures listed { λ r. ⌜ left (r .listed .reply) (r .listed .count ∷ pick (r .listed .more) 1 0 ∷ [])
+        (lent (r .numbers .used) (r .numbers .forced) (now (work .entry)) [] (now (log .entry)) (now (out .exit)))
         ≡ list low high (lent (n .used) (n .forced) (now (work .entry)) [] (now (log .entry)) (now (out .entry))) ⌝ }
 {
     let mut m = n;

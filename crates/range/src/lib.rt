@@ -31,7 +31,8 @@ pub fn start<'a>(pages: &'a [u8], key: u32) -> RangeReader<'a>
 
 // The record at the reader's position; the reader then stands at the next.
 pub fn advance<'s, 'a>(r: &'s mut RangeReader<'a>) -> Step
-    ensures advanced { λ s. ⌜ (s ≡ nextFrom (now (now (r .entry) .pages)) (now (r .entry) .at)) × (now (r .exit) .pages ≡ now (r .entry) .pages) × (now (r .exit) .reply ≡ now (r .entry) .reply) × (now (r .exit) .at ≡ s .next) ⌝ }
+    ensures advanced { λ s. ⌜ (s ≡ nextFrom (now (now (r .entry) .pages)) (now (r .entry) .at)) × (now (r .exit) .pages ≡ now (r .entry) .pages)
+        × (now (r .exit) .reply ≡ now (r .entry) .reply) × (now (r .exit) .at ≡ s .next) ⌝ }
 {
     let s = steps::step_at(r.pages, r.at);
     r.at = s.next;

@@ -46,16 +46,6 @@ pub fn put_unit(s: &mut [u8], at: usize, k: usize, n: LogNo, prior: LogNo, unit:
     field::put4(s, at + 12, unit.0);
 }
 
-// The log number of the record `back` records before, 0 where there is none.
-fn earlier(n: LogNo, back: u32) -> LogNo
-    ensures { λ r. ⌜ r .0 ≡ n .0 - back ⌝ }
-{
-    if n.0 < back {
-        return LogNo(0);
-    }
-    LogNo(n.0 - back)
-}
-
 // A header, two pages, a number of two bytes and zero: the front of an LO, an LI and an LM.
 pub fn put_paged(
     s: &mut [u8],
@@ -70,11 +60,21 @@ pub fn put_paged(
     requires { ⌜ (k < 6) × (rows ≤ 15) × (1 ≤ n .0) × (at + out .fixed ≤ length (now s)) ⌝ }
     ensures { λ _. ⌜ now (s .exit) ≡ put at (paged (kindAt k) rows (n .0) (a .0) (b .0) c) (now (s .entry)) ⌝ }
 {
-    put_header(s, at, k, kind::length_of(k, rows), n, earlier(n, 1));
+    put_header(s, at, k, kind::length_of(k, rows), n, LogNo(n.0 - 1));
     field::put2(s, at + 12, a.0);
     field::put2(s, at + 14, b.0);
     field::put2(s, at + 16, c);
     field::put2(s, at + 18, 0);
+}
+
+// The log number of the record `back` records before, 0 where there is none.
+fn earlier(n: LogNo, back: u32) -> LogNo
+    ensures { λ r. ⌜ r .0 ≡ n .0 - back ⌝ }
+{
+    if n.0 < back {
+        return LogNo(0);
+    }
+    LogNo(n.0 - back)
 }
 
 // An LI whose LO stands `back` records before and carried `rows` records.
@@ -119,7 +119,7 @@ pub fn put_end(s: &mut [u8], at: usize, n: LogNo, unit: UnitNo)
     requires { ⌜ (1 ≤ n .0) × (at + end .fixed ≤ length (now s)) ⌝ }
     ensures { λ _. ⌜ now (s .exit) ≡ put at (encode (n .0) (LE (unit .0))) (now (s .entry)) ⌝ }
 {
-    put_unit(s, at, kind::LE, n, earlier(n, 1), unit);
+    put_unit(s, at, kind::LE, n, LogNo(n.0 - 1), unit);
 }
 
 // An LO of the records rs, 16 bytes each.

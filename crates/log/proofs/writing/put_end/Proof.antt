@@ -4,8 +4,8 @@ use borrow.Author.Needs.{needs}
 use Rattle.log.proofs.writing.put_end.Statement.{statement}
 use Rattle.log.proofs.writing.put_end.Tie as tie
 
-earlier-requires : tie.Need-earlier-requires
-earlier-requires c κs = search needs
+sub-t8 : tie.Need-sub-t8
+sub-t8 c = search needs
 
 put-unit-requires : tie.Need-put-unit-requires
 put-unit-requires c κs = search needs
@@ -17,4 +17,4 @@ returns : tie.Need-returns
 returns c = let a = c .before .before .before .before .before .before in cc (encode-end (a .args .n .0) (a .args .unit .0))
 
 pub put-end-spec : {M : Type 1} → statement M
-put-end-spec = tie.close (tie.spec earlier-requires put-unit-requires same-length returns)
+put-end-spec = tie.close (tie.spec sub-t8 put-unit-requires same-length returns)

@@ -8,8 +8,8 @@ use Rattle.log.proofs.writing.put_paged.Tie as tie
 length-of-requires : tie.Need-length-of-requires
 length-of-requires c κs = search needs
 
-earlier-requires : tie.Need-earlier-requires
-earlier-requires c κs = search needs
+sub-t13 : tie.Need-sub-t13
+sub-t13 c = search needs
 
 put-header-requires : tie.Need-put-header-requires
 put-header-requires c κs = search needs
@@ -51,7 +51,7 @@ put-paged-spec =
     tie.close
     (tie.spec
     length-of-requires
-    earlier-requires
+    sub-t13
     put-header-requires
     add-put2
     put2-requires

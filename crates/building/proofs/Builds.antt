@@ -1,6 +1,6 @@
 -- Each way through build's tests, as a law. Assumes nothing.
 use Prim.Native.Nat.{ℕ, _/_, _%_, _≤_, _<_}
-use mathlib.Core.Path.{_≡_, refl, sym, ap, _∙_}
+use mathlib.Core.Path.{_≡_, refl, sym, _∙_}
 use mathlib.Core.Bool.{Bool, true, false, not}
 use mathlib.Core.List.{List, [], _∷_}
 use mathlib.Core.Option.{none}
@@ -11,11 +11,8 @@ use borrow.Author.Tests.{le-leb, lt-leb, leb-true, not-true, not-false}
 use Rattle.field.specs.Bytes.{put, zeroes}
 use Rattle.field.proofs.Test.{both-intro, both-true, both-false, all-head, all-tail, all-true, all-false, need-true, need-false}
 use Rattle.field.proofs.Part.{put-whole}
-use Rattle.field.proofs.Zero.{length-zeroes}
 use Rattle.page.specs.Page.{rowsOf, ascendRecords}
-use Rattle.log.specs.Record.{Check, encodeCheck}
 use Rattle.log.specs.Write.{lkOf, checkOf}
-use Rattle.log.proofs.Append.{put-zeroes}
 use Rattle.tree.specs.Layout.{leafGroups, baseGroups, layout}
 use Rattle.store.specs.Calls.{Lent, lent, Left, left, refused, threeSized, newLog, build}
 use Rattle.building.specs.Ranges as Ranges

@@ -131,18 +131,18 @@ next-size (close unit) did w r e = rw (← (Option·some-injective _ _ e))
 
 -- ---- the steps that are left
 
-page-bytes : (t : Option ℕ) (w : List ℕ) → Bytes w → Bytes (pageOf t w)
+pub page-bytes : (t : Option ℕ) (w : List ℕ) → Bytes w → Bytes (pageOf t w)
 unfolding pageOf
 page-bytes none w b = bytes-nil
 page-bytes (some p) w b = bytes-page p w b
 
 -- an open unit whose steps to come are x, xs
-record Opened (s : State) (x : Step) (xs : List Step) : Type 0 where
-  unit : Open
-  is : s .opened ≡ some unit
-  todo : unit .todo ≡ x ∷ xs
+pub record Opened (s : State) (x : Step) (xs : List Step) : Type 0 where
+  pub unit : Open
+  pub is : s .opened ≡ some unit
+  pub todo : unit .todo ≡ x ∷ xs
 
-opened-of : (s : State) (o : Option Open) (x : Step) (xs : List Step) → s .opened ≡ o → todoOf o ≡ x ∷ xs → Opened s x xs
+pub opened-of : (s : State) (o : Option Open) (x : Step) (xs : List Step) → s .opened ≡ o → todoOf o ≡ x ∷ xs → Opened s x xs
 unfolding todoOf
 opened-of s none x xs e t = absurd (cons-not t)
   where
@@ -150,7 +150,7 @@ opened-of s none x xs e t = absurd (cons-not t)
     cons-not q = let z : _≡_ {A = ℕ} 0 (suc (length xs)) = ap length q in omega arith
 opened-of s (some o) x xs e t = record { unit = o; is = e; todo = t }
 
-did-of : (s : State) (o : Open) → s .opened ≡ some o → didOf (s .opened) ≡ o .did
+pub did-of : (s : State) (o : Open) → s .opened ≡ some o → didOf (s .opened) ≡ o .did
 unfolding didOf
 did-of s o e = rw e
 
@@ -159,11 +159,13 @@ works-not v works-out e = let z : _≡_ {A = ℕ} 0 1 = cc in omega arith
 works-not v works-in e = let z : _≡_ {A = ℕ} 0 1 = cc in omega arith
 works-not v works-point e = let z : _≡_ {A = ℕ} 0 1 = cc in omega arith
 
-ending-close : {u : ℕ} (v : ℕ) (x : Step) (xs : List Step) → Ending u (x ∷ xs) → x ≡ close v → xs ≡ []
+-- after LE nothing is to come
+pub ending-close : {u : ℕ} (v : ℕ) (x : Step) (xs : List Step) → Ending u (x ∷ xs) → x ≡ close v → xs ≡ []
 ending-close v x xs Ending.last e = refl
 ending-close v x xs (Ending.more w h) e = absurd (works-not v w e)
 
-does-todo : {u : ℕ} {did : List Rec} {x : Step} {r : Rec} (o : Open) (xs : List Step) → Does did x r → o .todo ≡ x ∷ xs → Ending u (x ∷ xs)
+-- after the next record the steps to come are the others
+pub does-todo : {u : ℕ} {did : List Rec} {x : Step} {r : Rec} (o : Open) (xs : List Step) → Does did x r → o .todo ≡ x ∷ xs → Ending u (x ∷ xs)
     → todoOf (openedBy r (some o)) ≡ xs
 unfolding todoOf openedBy bind going
 does-todo o xs (does-out m) e h = rw e

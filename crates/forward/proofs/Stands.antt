@@ -15,7 +15,7 @@ use Rattle.field.specs.Bytes.{Bytes, most4}
 use Rattle.field.proofs.Test.{pick-either}
 use Rattle.field.specs.declared.PageNo.{PageNo}
 use Rattle.field.specs.declared.UnitNo.{UnitNo}
-use Rattle.log.specs.Record.{Begin, Rec, LM, LE}
+use Rattle.log.specs.Record.{Begin, Rec, LE}
 use Rattle.log.specs.Plan.{Step, takeOut, bringIn, point, close, gather, removals, others, replacing, compactPlan, movePlan, swapPlan, plan}
 use Rattle.log.specs.Log.{Open, State, beginOk, readBegin, Log, readLog, atEnd}
 use Rattle.log.specs.Scan.{keyIn, shown, lost, answer, scanned}

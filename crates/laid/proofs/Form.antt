@@ -22,6 +22,7 @@ use Rattle.page.proofs.Region.{formed-0, empty-formed, base-formed, leaf-formed
 use Rattle.page.proofs.Pages.{formed-all}
 use Rattle.tree.specs.Tree.{rootEntries, baseEntries, allRecords, pointers, pointedOnce, startsAtZero, headed, wellFormed}
 use Rattle.tree.specs.Layout.{fresh}
+use Rattle.tree.proofs.Tally.{pointers-append}
 use Rattle.laid.proofs.Groups.{flat}
 use Rattle.laid.proofs.Heads.{Heads, heads-length, heads-long, heads-ascend, heads-pointing, heads-before, heads-after, heads-once}
 use Rattle.laid.proofs.Under.{Holds, heads-below, heads-kept}
@@ -60,12 +61,6 @@ pub blank : Changed empty 0 [] (fresh empty [])
 blank = fresh-changed empty [] fit-empty fill-none
 
 -- ---- pointers
-
--- entries and entries behind them
-pointers-append : (q : ℕ) (a b : List (List ℕ)) → pointers q (a ++ b) ≡ pointers q a + pointers q b
-unfolding pointers
-pointers-append q [] b = sym (zero-add (pointers q b))
-pointers-append q (e ∷ es) b = rw (pointers-append q es b) (omega arith)
 
 -- what is asked of each page is asked of all
 once-all : (es : List (List ℕ)) (p : ℕ) (pgs : List (List ℕ))

@@ -11,14 +11,11 @@ use borrow.Author.Tests.{leb-true, le-leb}
 use Rattle.field.specs.Test.{bind}
 use Rattle.field.specs.Bytes.{Bytes, most4}
 use Rattle.field.proofs.Test.{both-1, both-2, need-true, given-some, bind-some, bind-intro, Bound, when-some}
-use Rattle.field.proofs.Byte.{bytes-nil}
-use Rattle.page.proofs.Pages.{bytes-page}
 use Rattle.log.specs.Record.{Check, Rec}
-use Rattle.log.specs.Plan.{Step, close}
-use Rattle.log.specs.Log.{Open, State, going, openedBy, after}
-use Rattle.log.proofs.Plan.{Works, works-out, works-in, works-point, Ending}
+use Rattle.log.specs.Plan.{Step}
+use Rattle.log.specs.Log.{Open, State, after}
 use Rattle.log.proofs.State.{number-atEnd}
-use Rattle.log.specs.Valid.{Does, does-out, does-in, does-point, does-close, Follows, goes, Fits, Good}
+use Rattle.log.specs.Valid.{Does, Follows, goes, Fits, Good}
 use Rattle.log.proofs.Sound.{Waits, Awaits, waits-open, sound-atEnd}
 use Rattle.log.proofs.Append.{atEnd-grown, good-grown}
 use Rattle.unit.specs.Next.{apply, repeat, repeatAll, targetOf, pageOf, nextRec, room}
@@ -30,6 +27,7 @@ use Rattle.store.specs.Calls as Calls
 use Rattle.replay.specs.Store.{run}
 use Rattle.replay.specs.Store as Replay
 use Rattle.unit.proofs.Kept.{Stands, fits-stands}
+use Rattle.forward.proofs.Grows.{page-bytes, Opened, opened-of, did-of, does-todo}
 use Rattle.promise.specs.Parts.{logOf, stateOf, nextOf, store}
 use Rattle.promise.proofs.Image.{image, put-image}
 
@@ -37,11 +35,6 @@ use Rattle.promise.proofs.Image.{image, put-image}
 
 pub none-not : {A : Type 0} (a : A) → none ≡ some a → ⊥
 none-not a e = let z : _≡_ {A = ℕ} 0 1 = cc in omega arith
-
-page-bytes : (t : Option ℕ) (w : List ℕ) → Bytes w → Bytes (pageOf t w)
-unfolding pageOf
-page-bytes none w b = bytes-nil
-page-bytes (some p) w b = bytes-page p w b
 
 -- what `nextOf` has tested
 pub record Next (x : Step) (xs : List Step) (s : State) (w : List ℕ) (r : Rec) : Type 0 where
@@ -60,26 +53,8 @@ next-facts x xs s w r e =
       numbered = leb-true (s .number + 1) most4 (both-2 _ _ (t .0));
     }
 
--- an open unit whose steps to come are x, xs
-pub record Opened (s : State) (x : Step) (xs : List Step) : Type 0 where
-  pub unit : Open
-  pub is : s .opened ≡ some unit
-  pub todo : unit .todo ≡ x ∷ xs
-
-opened-of : (s : State) (o : Option Open) (x : Step) (xs : List Step) → s .opened ≡ o → todoOf o ≡ x ∷ xs → Opened s x xs
-unfolding todoOf
-opened-of s none x xs e t = absurd (cons-not e t)
-  where
-    cons-not : s .opened ≡ none → [] ≡ x ∷ xs → ⊥
-    cons-not i q = let z : _≡_ {A = ℕ} 0 (suc (length xs)) = ap length q in omega arith
-opened-of s (some o) x xs e t = record { unit = o; is = e; todo = t }
-
 pub opened-at : (s : State) (x : Step) (xs : List Step) → todoOf (s .opened) ≡ x ∷ xs → Opened s x xs
 opened-at s x xs t = opened-of s (s .opened) x xs refl t
-
-pub did-of : (s : State) (o : Open) → s .opened ≡ some o → didOf (s .opened) ≡ o .did
-unfolding didOf
-did-of s o e = rw e
 
 -- the next record fits the log
 pub next-fits : (s : State) (x : Step) (xs : List Step) (w : List ℕ) (r : Rec) → Bytes w → Opened s x xs → Next x xs s w r → Fits s r
@@ -87,25 +62,6 @@ next-fits s x xs w r b o n =
     let d : Does (o .unit .did) x r =
     next-does x (o .unit .did) (pageOf (targetOf x) w) r (page-bytes (targetOf x) w b) (rw (did-of s (o .unit) (o .is)) at (n .record-of)) in
     record { room = n .numbered; follows = rw (o .is) (goes (o .todo) d) }
-
-works-not : {x : Step} (v : ℕ) → Works x → x ≡ close v → ⊥
-works-not v works-out e = let z : _≡_ {A = ℕ} 0 1 = cc in omega arith
-works-not v works-in e = let z : _≡_ {A = ℕ} 0 1 = cc in omega arith
-works-not v works-point e = let z : _≡_ {A = ℕ} 0 1 = cc in omega arith
-
--- after LE nothing is to come
-pub ending-close : {u : ℕ} (v : ℕ) (x : Step) (xs : List Step) → Ending u (x ∷ xs) → x ≡ close v → xs ≡ []
-ending-close v x xs Ending.last e = refl
-ending-close v x xs (Ending.more w h) e = absurd (works-not v w e)
-
--- after the next record the steps to come are the others
-does-todo : {u : ℕ} {did : List Rec} {x : Step} {r : Rec} (o : Open) (xs : List Step) → Does did x r → o .todo ≡ x ∷ xs → Ending u (x ∷ xs)
-    → todoOf (openedBy r (some o)) ≡ xs
-unfolding todoOf openedBy bind going
-does-todo o xs (does-out m) e h = rw e
-does-todo o xs (does-in q) e h = rw e
-does-todo o xs (does-point k) e h = rw e
-does-todo o xs (does-close {unit = v}) e h = sym (ending-close v (close v) xs h refl)
 
 -- the unit that is open at the end of a good log
 pub awaits-at : (c : Check) (l : List Rec) (x : Step) (xs : List Step) → Good (logOf c l) → (o : Opened (stateOf c l) x xs) → Awaits (stateOf c l .unit) (o .unit)

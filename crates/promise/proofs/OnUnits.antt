@@ -37,7 +37,8 @@ use Rattle.replay.specs.Laws.{Able, closed, more, UnitLaws}
 use Rattle.unit.proofs.Kept.{Stands, fits-stands}
 use Rattle.promise.specs.Parts.{logOf, stateOf, nextOf, store, asked, Chooses, Checks}
 use Rattle.promise.proofs.Image.{Stored, at-grown, stored-grown}
-use Rattle.promise.proofs.Forward.{Opened, opened-at, did-of, next-facts, next-fits, ending-close, follows-does, todo-after, awaits-at}
+use Rattle.forward.proofs.Grows.{Opened, did-of, ending-close}
+use Rattle.promise.proofs.Forward.{opened-at, next-facts, next-fits, follows-does, todo-after, awaits-at}
 use Rattle.promise.proofs.Called.{bare-at, apply-begin}
 use Rattle.promise.proofs.Accepted.{open-none}
 use Rattle.promise.proofs.Starts.{none-left-bare}

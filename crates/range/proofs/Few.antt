@@ -1,16 +1,16 @@
 -- A well-formed tree has at most 840 records: no two entries lead to the same leaf page, there are 56 of these, and each has at most 15 records.
 -- Assumes nothing.
 use Prim.Native.Nat.{ℕ, zero, suc, _+_, _-_, _*_, _≤_, _<_}
-use native.Mathlib.Nat.{add-zero, mul-suc, not-suc-le-zero}
+use native.Mathlib.Nat.{mul-suc}
 use native.Mathlib.Omega.{arith}
 use mathlib.Core.Path.{_≡_, refl, sym, _∙_}
 use mathlib.Core.Bool.{Bool, true, false}
 use mathlib.Core.List.{List, [], _∷_, _++_}
-use lib.ListN.{length, drop, length-append, length-drop}
+use lib.ListN.{length, drop, getD, length-append, length-drop}
 use lib.Dec.{eqb}
-use borrow.Author.Tests.{eq-eqb, ne-eqb, eqb-true}
+use borrow.Author.Tests.{eq-eqb, ne-eqb}
 use Rattle.field.specs.Test.{pick}
-use Rattle.field.proofs.Test.{all-head, both-1, both-2, pick-true, pick-false}
+use Rattle.field.proofs.Test.{all-head, pick-true, pick-false}
 use Rattle.field.proofs.Part.{split}
 use Rattle.page.specs.Page.{toPage, rows, isEmpty}
 use Rattle.page.specs.Pages.{page, pages}
@@ -23,7 +23,7 @@ use Rattle.tree.specs.Walk.{Below, Above}
 use Rattle.tree.specs.Reader.{Sound}
 use Rattle.tree.proofs.Regions.{root-points, base-points}
 use Rattle.tree.proofs.Sound.{root-entries, each-of}
-use Rattle.tree.proofs.Tally.{pointers-append}
+use Rattle.tree.proofs.Tally.{pointers-append, once-at}
 use Rattle.tree.proofs.Onward.{sound-over, each-under}
 
 -- ---- sums over n page numbers from p
@@ -77,13 +77,8 @@ unfolding pick
 pick-small true = omega arith
 pick-small false = omega arith
 
-once-at : (es : List (List ℕ)) (p i : ℕ) (pgs : List (List ℕ)) → pointedOnce es p pgs ≡ true → i < length pgs → pointers (p + i) es ≤ 1
-unfolding pointedOnce
-once-at es p i [] t h = absurd (not-suc-le-zero h)
-once-at es p zero (pg ∷ pgs) t h =
-    let e : pointers p es ≡ pick (isEmpty pg) 0 1 = eqb-true _ _ (both-1 _ _ t) in
-    rw (add-zero p) (omega (arith, pick-small (isEmpty pg)))
-once-at es p (suc i) (pg ∷ pgs) t h = let q : p + suc i ≡ p + 1 + i = omega arith in rw q (once-at es (p + 1) i pgs (both-2 _ _ t) (omega arith))
+at-most-once : (es : List (List ℕ)) (p i : ℕ) (pgs : List (List ℕ)) → pointedOnce es p pgs ≡ true → i < length pgs → pointers (p + i) es ≤ 1
+at-most-once es p i pgs t h = rw (once-at es p i pgs t h) (pick-small (isEmpty (getD pgs i [])))
 
 module _ (w : List ℕ) (s : Sound w) where
   abbrev tops : List (List ℕ)
@@ -111,7 +106,7 @@ module _ (w : List ℕ) (s : Sound w) where
       let few : (q : ℕ) → 8 ≤ q → q < 8 + 56 → pointers q level ≤ 1 =
       λ q a b. let i : ℕ = q - 1 in
       let e : 1 + i ≡ q = omega arith in
-      let o : pointers (1 + i) (tops ++ level) ≤ 1 = once-at (tops ++ level) 1 i (drop 1 (pages w)) sound-once (omega arith) in
+      let o : pointers (1 + i) (tops ++ level) ≤ 1 = at-most-once (tops ++ level) 1 i (drop 1 (pages w)) sound-once (omega arith) in
       rw (← e) (omega (arith, pointers-append (1 + i) tops level)) in
       omega (arith, sum-few (λ p. pointers p level) 8 56 few)
 

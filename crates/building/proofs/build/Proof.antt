@@ -1,11 +1,8 @@
 -- `building::build` meets its contract: a law for each of its answers. Assumes nothing.
 use Prim.Native.Nat.{_≤_}
 use mathlib.Core.Path.{_≡_, sym, _∙_}
-use mathlib.Core.Bool.{true}
-use lib.ListN.{length}
 use borrow.Author.Tests.{not-false}
 use Rattle.tree.proofs.Laid.{buildable}
-use Rattle.building.specs.Ranges.{inRange}
 use Rattle.building.proofs.Builds.{build-no-work!, build-no-store!, build-no-log!, build-no-range!, build-no-order!, build-no-leaves!, build-no-bases! }
 use Rattle.building.proofs.Builds.{Passed, build-all, range-facts, store-copied}
 use borrow.Author.Needs.{needs}

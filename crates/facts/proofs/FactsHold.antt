@@ -1,0 +1,10 @@
+-- All facts hold: one computation. Assumes nothing.
+use lib.Dec.{T}
+use Rattle.field.specs.Test.{all}
+use Rattle.rows.specs.Rows.{two, four, filledTo, value, recs, en, pg}
+use Rattle.rows.proofs.Computed.{computed}
+use Rattle.facts.specs.Facts.{marked, entryMark, twoEntries, tailZero, notTheOnly, modifyLong, three, leftmostZero, countsWritten, facts}
+
+pub facts-hold : T (all facts)
+unfolding computed two four filledTo value recs en pg marked entryMark twoEntries tailZero notTheOnly modifyLong three leftmostZero countsWritten facts
+facts-hold = tt

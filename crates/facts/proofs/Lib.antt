@@ -1,0 +1,2 @@
+-- The facts hold, by computing.
+pub mod FactsHold

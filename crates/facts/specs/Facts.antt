@@ -1,0 +1,54 @@
+-- Small facts of document 01 that the definitions have, by computing: what is expected stands here in figures and bytes. An edit that denies one
+-- must be refused, and costs the check of this small crate alone, where the same edit of code costs that of a large one. Assumes nothing.
+use Prim.Native.Nat.{ℕ}
+use mathlib.Core.Bool.{Bool, true, not}
+use mathlib.Core.List.{List, [], _∷_, _++_}
+use lib.Dec.{eqb}
+use Rattle.field.specs.Test.{both, pick, given, there}
+use Rattle.field.specs.Bytes.{zeroes, same, le4}
+use Rattle.page.specs.Page.{rowsOf, isBase, isLeaf}
+use Rattle.page.specs.Change.{removed}
+use Rattle.page.specs.Pages.{page}
+use Rattle.log.specs.Record.{modify, lengthOf}
+use Rattle.tree.specs.Answer.{countWritten}
+use Rattle.tree.specs.Layout.{layout}
+use Rattle.rows.specs.Rows.{four, two, recs, en, pg}
+
+-- a base page of one entry, with the entry's second mark byte
+unfoldable pub marked : (second : ℕ) → List ℕ
+marked b = pg 98 1 0 ((101 ∷ b ∷ four 0) ++ two 8)
+
+-- an entry's mark is tested, not only its key and page
+unfoldable pub entryMark : Bool
+entryMark = both (isBase (marked 110)) (not (isBase (marked 111)))
+
+-- a base page of two entries
+unfoldable pub twoEntries : List ℕ
+twoEntries = pg 98 2 0 (en 0 8 ++ en 50 9)
+
+-- where an LM has removed the second, zeros stand behind the first
+unfoldable pub tailZero : Bool
+tailZero = given (removed 5 50 9 twoEntries) (isLeaf []) (λ p. same p (pg 98 1 5 (en 0 8 ++ zeroes 8)))
+
+-- an LM that would leave its page no entry is none
+unfoldable pub notTheOnly : Bool
+notTheOnly = eqb (pick (there (removed 5 0 8 (pg 98 1 0 (en 0 8)))) 1 0) 0
+
+-- an LM has 28 bytes
+unfoldable pub modifyLong : Bool
+modifyLong = eqb (lengthOf modify 0) 28
+
+-- three records
+unfoldable pub three : List (List ℕ)
+three = rowsOf 16 3 (recs (10 ∷ 20 ∷ 30 ∷ []))
+
+-- the leftmost entry's key is 0, though the smallest record's is 10
+unfoldable pub leftmostZero : Bool
+leftmostZero = eqb (le4 (page 1 (layout 2 30 three)) 18) 0
+
+-- of three records two are written into room for two
+unfoldable pub countsWritten : Bool
+countsWritten = eqb (countWritten three (zeroes 47)) 2
+
+unfoldable pub facts : List Bool
+facts = entryMark ∷ tailZero ∷ notTheOnly ∷ modifyLong ∷ leftmostZero ∷ countsWritten ∷ []

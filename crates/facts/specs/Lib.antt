@@ -1,0 +1,2 @@
+-- Small facts of the definitions.
+pub mod Facts

@@ -1,17 +1,24 @@
 -- Small facts of document 01 that the definitions have, by computing: what is expected stands here in figures and bytes. An edit that denies one
 -- must be refused, and costs the check of this small crate alone, where the same edit of code costs that of a large one. Assumes nothing.
 use Prim.Native.Nat.{ℕ}
-use mathlib.Core.Bool.{Bool, true, not}
+use mathlib.Core.Bool.{Bool, true, false, not}
 use mathlib.Core.List.{List, [], _∷_, _++_}
+use mathlib.Core.Option.{Option, some}
+use lib.ListN.{length}
 use lib.Dec.{eqb}
 use Rattle.field.specs.Test.{both, pick, given, there}
 use Rattle.field.specs.Bytes.{zeroes, same, le4}
 use Rattle.page.specs.Page.{rowsOf, isBase, isLeaf}
 use Rattle.page.specs.Change.{removed}
 use Rattle.page.specs.Pages.{page}
-use Rattle.log.specs.Record.{modify, lengthOf}
+use Rattle.log.specs.Record.{modify, lengthOf, Begin, LO, LI, LE}
+use Rattle.log.specs.Log.{Open, largestMoved, openedBy}
+use Rattle.log.specs.Scan.{begun, shut}
+use Rattle.log.specs.Source.{sourceAt}
+use Rattle.tree.specs.Tree.{Leaf}
 use Rattle.tree.specs.Answer.{countWritten}
 use Rattle.tree.specs.Layout.{layout}
+use Rattle.unit.specs.Choice.{group}
 use Rattle.rows.specs.Rows.{four, two, recs, en, pg}
 
 -- a base page of one entry, with the entry's second mark byte
@@ -50,5 +57,33 @@ leftmostZero = eqb (le4 (page 1 (layout 2 30 three)) 18) 0
 unfoldable pub countsWritten : Bool
 countsWritten = eqb (countWritten three (zeroes 47)) 2
 
+-- a compact of pages 8 and 9 into 8
+unfoldable pub packs : Begin
+packs = record { unit = 1; type = 1; fill = 4; bases = 1 ∷ []; leaves = 8 ∷ 9 ∷ []; dest = 8 }
+
+-- LK after a compact is the largest key moved by all its LOs, not by the last: the latest stands first
+unfoldable pub largestOfAll : Bool
+largestOfAll =
+    eqb (largestMoved 0 (LO 10 8 (rowsOf 16 1 (recs (20 ∷ []))) ∷ LO 9 8 (rowsOf 16 1 (recs (30 ∷ []))) ∷ [])) 30
+
+-- an LE ends its unit, an LI does not
+unfoldable pub endEnds : Bool
+endEnds =
+    let now : Option Open = some (record { start = packs; did = []; todo = [] }) in
+    both (there (openedBy (LI 9 8 1 []) now)) (not (there (openedBy (LE 1) now)))
+
+-- what a swap's second LI brings in stands behind LB: 44 bytes after 24, where the unit begins
+unfoldable pub sourceBehind : Bool
+sourceBehind = eqb (sourceAt (begun (shut true 24 1 0 false 0)) 3) 68
+
+-- leaf pages 8 and 9 with two records each under base page 1
+unfoldable pub leafOn : (p : ℕ) → Leaf
+leafOn p = record { at = p; base = 1; count = 2; first = p }
+
+-- a group may have as many records as the fill
+unfoldable pub groupFull : Bool
+groupFull = eqb (length (group 4 (leafOn 8) (leafOn 9 ∷ []))) 2
+
 unfoldable pub facts : List Bool
-facts = entryMark ∷ tailZero ∷ notTheOnly ∷ modifyLong ∷ leftmostZero ∷ countsWritten ∷ []
+facts =
+    entryMark ∷ tailZero ∷ notTheOnly ∷ modifyLong ∷ leftmostZero ∷ countsWritten ∷ largestOfAll ∷ endEnds ∷ sourceBehind ∷ groupFull ∷ []

@@ -3,7 +3,7 @@
 use Prim.Native.Nat.{ℕ}
 use mathlib.Core.Bool.{Bool, true, false, not}
 use mathlib.Core.List.{List, [], _∷_, _++_}
-use mathlib.Core.Option.{Option, some}
+use mathlib.Core.Option.{Option, some, none}
 use lib.ListN.{length}
 use lib.Dec.{eqb}
 use Rattle.field.specs.Test.{both, pick, given, there}
@@ -11,14 +11,15 @@ use Rattle.field.specs.Bytes.{zeroes, same, le4}
 use Rattle.page.specs.Page.{rowsOf, isBase, isLeaf}
 use Rattle.page.specs.Change.{removed}
 use Rattle.page.specs.Pages.{page}
-use Rattle.log.specs.Record.{modify, lengthOf, Begin, LO, LI, LE}
+use Rattle.log.specs.Record.{modify, lengthOf, Begin, LB, LO, LI, LE}
 use Rattle.log.specs.Log.{Open, largestMoved, openedBy}
 use Rattle.log.specs.Scan.{begun, shut}
 use Rattle.log.specs.Source.{sourceAt}
 use Rattle.tree.specs.Tree.{Leaf}
-use Rattle.tree.specs.Answer.{countWritten}
+use Rattle.tree.specs.Answer.{lastNotAbove, countWritten}
 use Rattle.tree.specs.Layout.{layout}
 use Rattle.unit.specs.Choice.{group}
+use Rattle.unit.specs.Next.{target}
 use Rattle.rows.specs.Rows.{four, two, recs, en, pg}
 
 -- a base page of one entry, with the entry's second mark byte
@@ -84,6 +85,15 @@ leafOn p = record { at = p; base = 1; count = 2; first = p }
 unfoldable pub groupFull : Bool
 groupFull = eqb (length (group 4 (leafOn 8) (leafOn 9 ∷ []))) 2
 
+-- an LO changes its page, an LB changes none
+unfoldable pub beginChangesNone : Bool
+beginChangesNone = both (there (target (LO 9 8 []))) (not (there (target (LB packs))))
+
+-- the last entry that isn't above the key may be equal to it
+unfoldable pub equalPasses : Bool
+equalPasses = eqb (given (lastNotAbove 50 none (rowsOf 8 2 (en 0 8 ++ en 50 9))) 0 (λ p. p)) 9
+
 unfoldable pub facts : List Bool
 facts =
-    entryMark ∷ tailZero ∷ notTheOnly ∷ modifyLong ∷ leftmostZero ∷ countsWritten ∷ largestOfAll ∷ endEnds ∷ sourceBehind ∷ groupFull ∷ []
+    entryMark ∷ tailZero ∷ notTheOnly ∷ modifyLong ∷ leftmostZero ∷ countsWritten ∷ largestOfAll ∷ endEnds ∷ sourceBehind ∷ groupFull
+    ∷ beginChangesNone ∷ equalPasses ∷ []

@@ -1,31 +1,32 @@
--- What `Outer.antt` asks of list's answer: a reply, a count and whether more remain beside the numbers.
--- Assumes `Given`.
-use mathlib.Core.Path.{ap}
-use denote.Steps.{only}
+-- List's answer, a reply, a count and whether more remain, beside the numbers, for `Outer.antt`. Assumes `Given`.
+use mathlib.Core.Path.{refl}
 use denote.Struct.Laws as SL
 use Rattle.answering.proofs.listing.ListAnswer as A
 use Rattle.answering.proofs.listing.ListAnswer.Laws as A′
 use Rattle.answering.proofs.listing.Listed as X
 use Rattle.answering.proofs.listing.Listed.Laws as X′
 use Rattle.uhtlight.proofs.Outer.{Answered}
+use Rattle.uhtlight.proofs.OfStruct.{Paired, ofStruct}
 
-abbrev pub ofListed : Answered
-ofListed = record {
-  RA = A.the-row;
-  R = X.the-row;
+abbrev pub listedAnswer : Paired
+listedAnswer = record {
+  A = A.the-type;
+  X = X.the-type;
+  LA = A′.the-laws;
+  LX = X′.the-laws;
+  plainA = A′.the-plain;
+  plainX = X′.the-plain;
   ν = A.struct .name;
   τ = X′.mir;
   result = λ r. r .listed;
   numbers = λ r. r .numbers;
-  value = SL.val X.the-type X′.the-laws;
-  parts = λ 𝓤 H 𝓐 W r u is.
-      let fields = SL.owed A.the-type A′.the-laws r _ is in
-      record {
-        value-is = ap only (SL.tells A.the-type A′.the-laws r _ is);
-        typed = SL.lawful A.the-type A′.the-laws 𝓤 H 𝓐 W .typed r _ is .0;
-        result-is = fields .0;
-        result-typed = SL.lawful X.the-type X′.the-laws 𝓤 H 𝓐 W .typed (r .listed) _ (fields .0) .0;
-        numbers-are = fields .1 .0;
-      };
-  makes = λ 𝓤 H 𝓐 W. SL.makes X.the-type X′.the-plain 𝓤 H 𝓐;
+  shape = λ r. refl;
+  parted = λ r fields. (fields .0, fields .1 .0);
+  answer-typed = λ M 𝓤 H 𝓐 W r u is. SL.lawful A.the-type A′.the-laws 𝓤 H 𝓐 W .typed r _ is .0;
+  result-typed = λ M 𝓤 H 𝓐 W x u is. SL.lawful X.the-type X′.the-laws 𝓤 H 𝓐 W .typed x _ is .0;
+  make = λ x h. record { listed = x; numbers = h };
+  made = λ x h is are. SL.owes A.the-type A′.the-laws (record { listed = x; numbers = h }) (is, (are, tt));
 }
+
+abbrev pub ofListed : Answered
+ofListed = ofStruct listedAnswer

@@ -33,7 +33,7 @@ use Rattle.uhtlight.proofs.uhtlight_find as callee
 use Rattle.uhtlight.proofs.uhtlight_find.Symbol as callee-def
 use Rattle.uhtlight.proofs.uhtlight_find.Met as callee-thm
 use Rattle.handed.proofs.Lending.{lifeOf, lentRecord, lending-runs}
-use Rattle.handed.proofs.ByFound.{byFound}
+use Rattle.handed.proofs.ByStruct.{byFound}
 use Rattle.handed.proofs.find as f
 use Rattle.handed.proofs.find.Key as key
 use Rattle.handed.proofs.find.Statement as stated

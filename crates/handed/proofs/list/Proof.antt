@@ -33,7 +33,7 @@ use Rattle.uhtlight.proofs.uhtlight_list as callee
 use Rattle.uhtlight.proofs.uhtlight_list.Symbol as callee-def
 use Rattle.uhtlight.proofs.uhtlight_list.Met as callee-thm
 use Rattle.handed.proofs.Lending.{lifeOf, lentRecord, lending-runs}
-use Rattle.handed.proofs.ByListed.{byListed}
+use Rattle.handed.proofs.ByStruct.{byListed}
 use Rattle.handed.proofs.list as f
 use Rattle.handed.proofs.list.Key as key
 use Rattle.handed.proofs.list.Statement as stated

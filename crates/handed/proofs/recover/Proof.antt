@@ -32,7 +32,7 @@ use Rattle.uhtlight.proofs.uhtlight_recover as callee
 use Rattle.uhtlight.proofs.uhtlight_recover.Symbol as callee-def
 use Rattle.uhtlight.proofs.uhtlight_recover.Met as callee-thm
 use Rattle.handed.proofs.Lending.{lifeOf, lentRecord, lending-runs}
-use Rattle.handed.proofs.ByRecovered.{byRecovered}
+use Rattle.handed.proofs.ByStruct.{byRecovered}
 use Rattle.handed.proofs.recover as f
 use Rattle.handed.proofs.recover.Key as key
 use Rattle.handed.proofs.recover.Statement as stated

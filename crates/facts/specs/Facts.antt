@@ -8,7 +8,7 @@ use lib.ListN.{length}
 use lib.Dec.{eqb}
 use Rattle.field.specs.Test.{both, pick, given, there}
 use Rattle.field.specs.Bytes.{zeroes, same, le4}
-use Rattle.page.specs.Page.{rowsOf, isBase, isLeaf}
+use Rattle.page.specs.Page.{rowsOf, isBase}
 use Rattle.page.specs.Change.{removed}
 use Rattle.page.specs.Pages.{page}
 use Rattle.log.specs.Record.{modify, lengthOf, Begin, LB, LO, LI, LE}
@@ -36,7 +36,7 @@ twoEntries = pg 98 2 0 (en 0 8 ++ en 50 9)
 
 -- where an LM has removed the second, zeros stand behind the first
 unfoldable pub tailZero : Bool
-tailZero = given (removed 5 50 9 twoEntries) (isLeaf []) (λ p. same p (pg 98 1 5 (en 0 8 ++ zeroes 8)))
+tailZero = given (removed 5 50 9 twoEntries) false (λ p. same p (pg 98 1 5 (en 0 8 ++ zeroes 8)))
 
 -- an LM that would leave its page no entry is none
 unfoldable pub notTheOnly : Bool

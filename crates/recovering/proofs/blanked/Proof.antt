@@ -1,4 +1,4 @@
--- `store::recovering::blanked` meets its contract: zeros over all pages. Assumes nothing.
+-- `recovering::blanked` meets its contract: zeros over all pages. Assumes nothing.
 use mathlib.Core.Path.{_∙_}
 use Rattle.recovering.proofs.Recovers.{all-blank}
 use borrow.Author.Needs.{needs}

@@ -1,4 +1,4 @@
--- `store::recovering::complete` meets its contract: a law for each of its answers. Assumes nothing.
+-- `recovering::complete` meets its contract: a law for each of its answers. Assumes nothing.
 use mathlib.Core.Path.{sym, _∙_}
 use borrow.Author.Tests.{not-true, not-false}
 use Rattle.recovering.proofs.Recovers.{found-inside, complete-stops, complete-unwell, complete-accepts}

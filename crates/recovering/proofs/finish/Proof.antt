@@ -1,4 +1,4 @@
--- `store::recovering::finish` meets its contract. The invariant: finishing all is finishing what is still to come. Assumes nothing.
+-- `recovering::finish` meets its contract. The invariant: finishing all is finishing what is still to come. Assumes nothing.
 use Prim.Native.Nat.{_-_}
 use native.Mathlib.Omega.{arith}
 use borrow.Author.Needs.{needs}

@@ -1,4 +1,4 @@
--- `store::recovering::none_newer` meets its contract. The invariant: no page is newer where none from page p on is. Assumes nothing.
+-- `recovering::none_newer` meets its contract. The invariant: no page is newer where none from page p on is. Assumes nothing.
 use Prim.Native.Nat.{_≤_, _-_, _*_}
 use mathlib.Core.Path.{_≡_}
 use native.Mathlib.Omega.{arith}

@@ -1,4 +1,4 @@
--- `store::stepping::formed_at` meets its contract. Assumes nothing.
+-- `stepping::formed_at` meets its contract. Assumes nothing.
 use Rattle.stepping.proofs.Steps.{lent-formed! }
 use borrow.Author.Needs.{needs}
 use Rattle.stepping.proofs.formed_at.Statement.{statement}

@@ -1,4 +1,4 @@
--- `store::stepping::step` meets its contract: a law for each of its answers. Assumes nothing.
+-- `stepping::step` meets its contract: a law for each of its answers. Assumes nothing.
 use native.Mathlib.Omega.{arith}
 use mathlib.Core.Path.{_≡_, sym, _∙_}
 use lib.ListN.{length-drop}

@@ -1,4 +1,4 @@
--- `store::stepping::target_formed` meets its contract. Assumes nothing.
+-- `stepping::target_formed` meets its contract. Assumes nothing.
 use Rattle.stepping.proofs.Steps.{target-out!, target-in!, target-point!, target-close!, out-small, in-small, base-small}
 use borrow.Author.Needs.{needs}
 use Rattle.stepping.proofs.target_formed.Statement.{statement}

@@ -1,4 +1,4 @@
--- `store::appending::append` meets its contract. Assumes nothing.
+-- `forward::appending::append` meets its contract. Assumes nothing.
 use native.Mathlib.Omega.{arith}
 use lib.ListN.{length-drop}
 use borrow.Rule.Slice.PartAt.{part-to-end}

@@ -1,4 +1,4 @@
--- `store::appending::append_close` meets its contract. Assumes nothing.
+-- `forward::appending::append_close` meets its contract. Assumes nothing.
 use native.Mathlib.Omega.{arith}
 use mathlib.Core.Path.{sym, _∙_}
 use Rattle.forward.proofs.Stands.{Stands, stands}

@@ -1,4 +1,4 @@
--- `store::appending::append_in` meets its contract. Assumes nothing.
+-- `forward::appending::append_in` meets its contract. Assumes nothing.
 use Prim.Native.Nat.{_+_, _*_, _≤_}
 use native.Mathlib.Omega.{arith}
 use mathlib.Core.Path.{sym, _∙_}

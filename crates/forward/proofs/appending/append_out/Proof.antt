@@ -1,4 +1,4 @@
--- `store::appending::append_out` meets its contract. Assumes nothing.
+-- `forward::appending::append_out` meets its contract. Assumes nothing.
 use Prim.Native.Nat.{_+_, _*_, _≤_}
 use native.Mathlib.Omega.{arith}
 use mathlib.Core.Path.{_≡_, sym, _∙_}

@@ -1,4 +1,4 @@
--- `store::appending::append_point` meets its contract. Assumes nothing.
+-- `forward::appending::append_point` meets its contract. Assumes nothing.
 use native.Mathlib.Omega.{arith}
 use mathlib.Core.Path.{_≡_, sym, _∙_}
 use mathlib.Core.Bool.{true}

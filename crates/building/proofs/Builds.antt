@@ -1,6 +1,6 @@
 -- Each way through build's tests, as a law. Assumes nothing.
 use Prim.Native.Nat.{ℕ, _/_, _%_, _≤_, _<_}
-use mathlib.Core.Path.{_≡_, refl, sym, _∙_}
+use mathlib.Core.Path.{_≡_, sym, _∙_}
 use mathlib.Core.Bool.{Bool, true, false, not}
 use mathlib.Core.List.{List, [], _∷_}
 use mathlib.Core.Option.{none}
@@ -9,7 +9,7 @@ use lib.Dec.{eqb, leb}
 use Rattle.field.specs.Test.{both, all, pick}
 use borrow.Author.Tests.{le-leb, lt-leb, leb-true, not-true, not-false}
 use Rattle.field.specs.Bytes.{put, zeroes}
-use Rattle.field.proofs.Test.{both-intro, both-true, both-false, all-head, all-tail, all-true, all-false, need-true, need-false}
+use Rattle.field.proofs.Test.{both-intro, both-true, both-false, all-head, all-tail, all-one, all-true, all-false, need-true, need-false}
 use Rattle.field.proofs.Part.{put-whole}
 use Rattle.page.specs.Page.{rowsOf, ascendRecords}
 use Rattle.log.specs.Write.{lkOf, checkOf}
@@ -137,11 +137,6 @@ module _ (used forced : ℕ) (work store log records : List ℕ) (f g : ℕ) whe
 
 -- ---- the parts
 
-all-last : (t : Bool) → all (t ∷ []) ≡ t
-unfolding all both
-all-last true = refl
-all-last false = refl
-
 -- test 12, a fact each
 module _ (f g long : ℕ) where
   pub range-leaf-low! : f < 1 → false ≡ Ranges.inRange f g long
@@ -167,7 +162,7 @@ module _ (f g long : ℕ) where
         pub range-whole! : g ≤ 30 → eqb (long % 16) 0 ≡ Ranges.inRange f g long
         unfolding Ranges.inRange
         range-whole! e =
-            sym (all-true _ _ (le-leb 1 f a) ∙ all-true _ _ (le-leb f 15 b) ∙ all-true _ _ (le-leb 1 g c) ∙ all-true _ _ (le-leb g 30 e) ∙ all-last (eqb (long % 16) 0))
+            sym (all-true _ _ (le-leb 1 f a) ∙ all-true _ _ (le-leb f 15 b) ∙ all-true _ _ (le-leb 1 g c) ∙ all-true _ _ (le-leb g 30 e) ∙ all-one (eqb (long % 16) 0))
 
   -- what it says of the fills
   pub range-facts : Ranges.inRange f g long ≡ true → (1 ≤ f) × (f ≤ 15) × (1 ≤ g) × (g ≤ 30)

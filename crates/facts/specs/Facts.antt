@@ -8,7 +8,7 @@ use lib.ListN.{length}
 use lib.Dec.{eqb}
 use Rattle.field.specs.Test.{both, pick, given, there}
 use Rattle.field.specs.Bytes.{zeroes, same, le4}
-use Rattle.page.specs.Page.{rowsOf, isBase}
+use Rattle.page.specs.Page.{rowsOf, isBase, isLeaf}
 use Rattle.page.specs.Change.{removed}
 use Rattle.page.specs.Pages.{page}
 use Rattle.log.specs.Record.{modify, lengthOf, Begin, LB, LO, LI, LE}
@@ -29,6 +29,10 @@ marked b = pg 98 1 0 ((101 ∷ b ∷ four 0) ++ two 8)
 -- an entry's mark is tested, not only its key and page
 unfoldable pub entryMark : Bool
 entryMark = both (isBase (marked 110)) (not (isBase (marked 111)))
+
+-- keys ascend strictly: a leaf with two equal keys is none
+unfoldable pub keysStrict : Bool
+keysStrict = both (isLeaf (pg 108 2 0 (recs (10 ∷ 20 ∷ [])))) (not (isLeaf (pg 108 2 0 (recs (20 ∷ 20 ∷ [])))))
 
 -- a base page of two entries
 unfoldable pub twoEntries : List ℕ
@@ -95,5 +99,5 @@ equalPasses = eqb (given (lastNotAbove 50 none (rowsOf 8 2 (en 0 8 ++ en 50 9)))
 
 unfoldable pub facts : List Bool
 facts =
-    entryMark ∷ tailZero ∷ notTheOnly ∷ modifyLong ∷ leftmostZero ∷ countsWritten ∷ largestOfAll ∷ endEnds ∷ sourceBehind ∷ groupFull
+    entryMark ∷ keysStrict ∷ tailZero ∷ notTheOnly ∷ modifyLong ∷ leftmostZero ∷ countsWritten ∷ largestOfAll ∷ endEnds ∷ sourceBehind ∷ groupFull
     ∷ beginChangesNone ∷ equalPasses ∷ []

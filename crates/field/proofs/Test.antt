@@ -35,6 +35,11 @@ unfolding both
 both-end true = refl
 both-end false = refl
 
+pub both-no : (a : Bool) → both a false ≡ false
+unfolding both
+both-no true = refl
+both-no false = refl
+
 pub both-assoc : (a b c : Bool) → both (both a b) c ≡ both a (both b c)
 unfolding both
 both-assoc true b c = refl
@@ -53,6 +58,10 @@ all-tail b bs e = both-2 b (all bs) e
 pub all-nil : all [] ≡ true
 unfolding all
 all-nil = refl
+
+pub all-one : (b : Bool) → all (b ∷ []) ≡ b
+unfolding all
+all-one b = both-end b
 
 pub all-intro : (b : Bool) (bs : List Bool) → b ≡ true → all bs ≡ true → all (b ∷ bs) ≡ true
 unfolding all
@@ -75,6 +84,11 @@ pick-true b x y p = rw p
 pub pick-false {ℓ} : {A : Type ℓ} (b : Bool) (x y : A) → b ≡ false → pick b x y ≡ y
 unfolding pick
 pick-false b x y p = rw p
+
+pub pick-same : (b : Bool) → pick b true false ≡ b
+unfolding pick
+pick-same true = refl
+pick-same false = refl
 
 pub pick-or : (a b : Bool) → pick a true b ≡ true → (a ≡ true) ⊎ (b ≡ true)
 unfolding pick

@@ -10,7 +10,7 @@ use lib.Dec.{eqb, leb, ltb}
 use borrow.Author.Tests.{eqb-true, leb-true, eq-eqb, le-leb, lt-leb, lt-ltb, le-ltb}
 use Rattle.field.specs.Test.{both}
 use Rattle.field.specs.Bytes.{Bytes, le2, le4}
-use Rattle.field.proofs.Test.{both-1, both-2, both-intro, both-true, both-false, both-end, both-assoc}
+use Rattle.field.proofs.Test.{both-1, both-2, both-intro, both-true, both-false, both-end, both-no, both-assoc}
 use Rattle.field.proofs.Part.{split}
 use Rattle.field.proofs.Number.{le2-small, le4-halves}
 use Rattle.page.specs.Page.{rowsOf, ascend, pointing}
@@ -131,11 +131,6 @@ unfoldable pub among : (from to : ℕ) (l : List ℕ) (k i : ℕ) → Bool
 among from to l k i = both (pointing from to (rowsOf 8 (k - i + 1) (drop (8 * i + 16) l))) (behind 8 101 110 l (8 * i + 16) (k - i))
 
 -- ---- tests in another order
-
-both-no : (a : Bool) → both a false ≡ false
-unfolding both
-both-no true = refl
-both-no false = refl
 
 both-swap : (a b : Bool) → both a b ≡ both b a
 unfolding both

@@ -11,7 +11,7 @@ use borrow.Author.Tests.{eqb-true, leb-true, eq-eqb, ne-eqb, le-leb, lt-leb, not
 use borrow.Rule.Slice.PartAt.{part-to-end}
 use Rattle.field.specs.Test.{both, all, pick}
 use Rattle.field.specs.Bytes.{part, allZero}
-use Rattle.field.proofs.Test.{both-end, both-true, both-false, all-head, all-tail, pick-second}
+use Rattle.field.proofs.Test.{both-end, both-true, both-false, all-head, all-tail, pick-same, pick-second}
 use Rattle.page.specs.Page.{kind, rowsOf, ascend, pointing, letter, count, spare, rows, shaped, isRoot, isBase, isLeaf, isEmpty, formed}
 use Rattle.page.specs.Shape.{headShaped, bodyShaped}
 use Rattle.page.specs.Pages.{page, pages, allFormed}
@@ -145,11 +145,6 @@ module _ (a b from to n : ℕ) (l : List ℕ) (f : n ≡ count l) (z : Bool)
 
 -- ---- the kinds of page that may stand in a place
 
-pick-true : (b : Bool) → b ≡ pick b true false
-unfolding pick
-pick-true true = refl
-pick-true false = refl
-
 module _ (p : ℕ) (l : List ℕ) (z : Bool) where
   pub formed-root! : p ≡ 0 → z ≡ isRoot l → z ≡ formed p l
   unfolding formed pick
@@ -172,7 +167,7 @@ module _ (p : ℕ) (l : List ℕ) (z : Bool) where
     below-kind! h = sym (below ∙ pick-second (isEmpty l) z h)
 
     pub below-empty! : z ≡ false → (x : Bool) → x ≡ isEmpty l → x ≡ formed p l
-    below-empty! h x f = f ∙ pick-true (isEmpty l) ∙ sym (below ∙ rw h)
+    below-empty! h x f = f ∙ sym (pick-same (isEmpty l)) ∙ sym (below ∙ rw h)
 
 -- ---- all pages, one after the other: those from page p on
 

@@ -9,7 +9,7 @@ use lib.ListN.{length, take, drop, getD}
 use lib.Dec.{leb, ltb}
 use borrow.Author.Tests.{eq-eqb, ne-eqb, eqb-true, le-leb, lt-leb, leb-true, lt-ltb, le-ltb, ltb-true}
 use Rattle.field.specs.Test.{both, all}
-use Rattle.field.proofs.Test.{all-head, all-tail, all-true, all-false, all-nil, both-end, both-true, both-false, pick-true, pick-false, need-true, need-false}
+use Rattle.field.proofs.Test.{all-head, all-tail, all-one, all-true, all-false, all-nil, both-true, both-false, pick-true, pick-false, need-true, need-false}
 use Rattle.page.specs.Page.{keyOf, valueOf, letter, count, rows}
 use Rattle.page.specs.Pages.{page, pages, allFormed}
 use Rattle.page.proofs.Pages.{lent-page, length-page}
@@ -18,10 +18,6 @@ use Rattle.tree.specs.declared.walk.Place.{Place}
 use Rattle.tree.proofs.Turn.{letter-page}
 use Rattle.range.specs.Reading.{place, theEnd, hasRow, hasTop, hasEntry, hasRecord, entryTo, firstBelow, leafAfter, settled, step, nothing}
 use Rattle.range.specs.Reading.{nextFrom, firstFrom, reached, startFrom}
-
-all-last : (b : Bool) → all (b ∷ []) ≡ b
-unfolding all
-all-last b = both-end b
 
 -- ---- a row that may be read
 
@@ -62,7 +58,7 @@ module _ (c m p i : ℕ) (w : List ℕ) where
       row-many! g = sym (counted ∙ all-false _ _ (lt-leb n m g))
 
       pub row-is! : n ≤ m → ltb i n ≡ hasRow c m p i w
-      row-is! g = sym (counted ∙ all-true _ _ (le-leb n m g) ∙ all-last _)
+      row-is! g = sym (counted ∙ all-true _ _ (le-leb n m g) ∙ all-one _)
 
 pub row-true : (c m p i : ℕ) (w : List ℕ) → Rowed c m p i w → hasRow c m p i w ≡ true
 unfolding hasRow

@@ -186,73 +186,6 @@ some-repeats l v v′ g e h = sym (bind-intro (readLog l) _ g e) ∙ h
 abbrev Blanked : (w : List ℕ) (used forced reply v c u f : ℕ) → Type 0
 Blanked w used forced reply v c u f = (w ≡ zeroes 16384) × (v ≡ reply) × (c ≡ 0) × (u ≡ used) × (f ≡ forced)
 
-module _ (used forced : ℕ) (work store log : List ℕ) (v c u f : ℕ) where
-  abbrev given : Lent
-  given = lent used forced work store log []
-
-  abbrev got : (w : List ℕ) → Left
-  got w = left v (c ∷ []) (lent u f w store log [])
-
-  -- reply 1 leaves all
-  unsized : recover given ≡ refused 1 1 given → Says used forced 1 v c u f → got work ≡ recover given
-  unfolding refused zeroes
-  unsized e s = rw (s .0, s .1, s .2, s .3) (sym e)
-
-  pub recover-no-work! : Says used forced 1 v c u f → (length work ≡ 16384 → ⊥) → got work ≡ recover given
-  recover-no-work! s a = unsized (recover-unsized given (three-no-work given a)) s
-
-  pub recover-no-store! : Says used forced 1 v c u f → (length store ≡ 16384 → ⊥) → length work ≡ 16384 → got work ≡ recover given
-  recover-no-store! s b a = unsized (recover-unsized given (three-no-store given a b)) s
-
-  pub recover-no-log! : Says used forced 1 v c u f → (length log ≡ 8192 → ⊥) → length work ≡ 16384 → length store ≡ 16384 → got work ≡ recover given
-  recover-no-log! s h a b = unsized (recover-unsized given (three-no-log given a b h)) s
-
-  -- the other refusals leave zeros
-  blanks : (r : ℕ) (w : List ℕ) → recover given ≡ zeroed r given → Blanked w used forced r v c u f → got w ≡ recover given
-  blanks r w q b = zeroed-as given r v c u f w (b .0) (b .1, b .2, b .3, b .4) ∙ sym q
-
-module _ (used forced : ℕ) (work store log : List ℕ) (a : length work ≡ 16384) (b : length store ≡ 16384) (h : length log ≡ 8192) where
-  abbrev d′ : Lent
-  d′ = lent used forced work store log []
-
-  sized : threeSized d′ ≡ true
-  sized = three-sized d′ a b h
-
-  module _ (x : Scan) (e : x ≡ scanned 0 log) where
-    walked : x .walk ≡ (scanned 0 log) .walk
-    walked = ap (λ (y : Scan). y .walk) e
-
-    pub recover-broken! : (w : List ℕ) (v c u f : ℕ) → Blanked w used forced 2 v c u f → not (x .walk .ok) ≡ true
-        → left v (c ∷ []) (lent u f w store log []) ≡ recover d′
-    recover-broken! w v c u f l k =
-        blanks used forced work store log v c u f 2 w
-        (recover-unread d′ sized (unread-by log (readLog log) refl (sym (ap (λ (y : Walk). y .ok) walked) ∙ not-true _ k))) l
-
-    module _ (k : not (x .walk .ok) ≡ false) where
-      read : Was log (x .walk)
-      read = was log (x .walk) walked (not-false _ k)
-
-      pub recover-reads! : there (readLog log) ≡ true
-      recover-reads! = there-some (readLog log) (read .log) (read .read)
-
-      module _ (y : Bool) (ye : y ≡ allFormed 0 (pages store)) where
-        pub recover-form! : (w : List ℕ) (v c u f : ℕ) → Blanked w used forced 3 v c u f → not y ≡ true
-            → left v (c ∷ []) (lent u f w store log []) ≡ recover d′
-        recover-form! w v c u f l i =
-            blanks used forced work store log v c u f 3 w (recover-unformed d′ sized (read .log) (read .read) (sym ye ∙ not-true y i)) l
-
-        module _ (i : not y ≡ false) (z : Bool) (ze : z ≡ noneNewer (x .walk .number .0) (pages store)) where
-          formed : allFormed 0 (pages store) ≡ true
-          formed = sym ye ∙ not-false y i
-
-          last-is : z ≡ noneNewer (atEnd (read .log) .number) (pages store)
-          last-is = ze ∙ ap (λ (n : ℕ). noneNewer n (pages store)) (number-is (atEnd (read .log)) (x .walk) (read .shows))
-
-          pub recover-ahead! : (w : List ℕ) (v c u f : ℕ) → Blanked w used forced 4 v c u f → not z ≡ true
-              → left v (c ∷ []) (lent u f w store log []) ≡ recover d′
-          recover-ahead! w v c u f l n =
-              blanks used forced work store log v c u f 4 w (recover-newer d′ sized (read .log) (read .read) formed (sym last-is ∙ not-true z n)) l
-
 -- the tests that are passed where the log is repeated
 pub record Tested (work store log : List ℕ) (x : Scan) : Type 0 where
   pub work-sized : length work ≡ 16384
@@ -263,42 +196,96 @@ pub record Tested (work store log : List ℕ) (x : Scan) : Type 0 where
   pub formed-all : allFormed 0 (pages store) ≡ true
   pub newer : noneNewer (x .walk .number .0) (pages store) ≡ true
 
-module _ (used forced : ℕ) (work store log : List ℕ) (x : Scan) (t : Tested work store log x) (w₁ : List ℕ) (copied : w₁ ≡ put 0 store work) (r : Bool)
-    (w₂ : List ℕ) (q : Repeated log w₁ r w₂) where
-  abbrev d″ : Lent
-  d″ = lent used forced work store log []
+module _ (used forced : ℕ) (work store log : List ℕ) where
+  abbrev given : Lent
+  given = lent used forced work store log []
 
-  start : w₁ ≡ store
-  start = copied ∙ put-whole store work (t .store-sized ∙ sym (t .work-sized))
+  module _ (v c u f : ℕ) where
+    abbrev got : (w : List ℕ) → Left
+    got w = left v (c ∷ []) (lent u f w store log [])
 
-  whole : threeSized d″ ≡ true
-  whole = three-sized d″ (t .work-sized) (t .store-sized) (t .log-sized)
+    -- reply 1 leaves all
+    unsized : recover given ≡ refused 1 1 given → Says used forced 1 v c u f → got work ≡ recover given
+    unfolding refused zeroes
+    unsized e s = rw (s .0, s .1, s .2, s .3) (sym e)
 
-  was-read : Was log (x .walk)
-  was-read = was log (x .walk) (ap (λ (y : Scan). y .walk) (t .scans)) (not-false _ (t .ok))
+    pub recover-no-work! : Says used forced 1 v c u f → (length work ≡ 16384 → ⊥) → got work ≡ recover given
+    recover-no-work! s a = unsized (recover-unsized given (three-no-work given a)) s
 
-  none-newer : noneNewer (atEnd (was-read .log) .number) (pages store) ≡ true
-  none-newer = sym (ap (λ (n : ℕ). noneNewer n (pages store)) (number-is (atEnd (was-read .log)) (x .walk) (was-read .shows))) ∙ t .newer
+    pub recover-no-store! : Says used forced 1 v c u f → (length store ≡ 16384 → ⊥) → length work ≡ 16384 → got work ≡ recover given
+    recover-no-store! s b a = unsized (recover-unsized given (three-no-store given a b)) s
 
-  pub recover-stuck! : (w : List ℕ) (v c u f : ℕ) → Blanked w used forced 5 v c u f → not r ≡ true
-      → left v (c ∷ []) (lent u f w store log []) ≡ recover d″
-  recover-stuck! w v c u f l m =
-      let none-left = none-repeats log store (was-read .log) (was-read .read) (sym (ap (λ (y : List ℕ). there (repeated log y)) start) ∙ sym (q .said) ∙ not-true _ m) in
-      blanks used forced work store log v c u f 5 w (recover-undone d″ whole (was-read .log) (was-read .read) (t .formed-all) none-newer none-left) l
+    pub recover-no-log! : Says used forced 1 v c u f → (length log ≡ 8192 → ⊥) → length work ≡ 16384 → length store ≡ 16384 → got work ≡ recover given
+    recover-no-log! s h a b = unsized (recover-unsized given (three-no-log given a b h)) s
 
-  module _ (m : not r ≡ false) where
-    again : repeatAll (was-read .log .top .number + 1) (was-read .log .recs) store ≡ some w₂
-    again = some-repeats log store w₂ (was-read .log) (was-read .read) (sym (ap (repeated log) start) ∙ q .left (not-false _ m))
+    -- the other refusals leave zeros
+    blanks : (r : ℕ) (w : List ℕ) → recover given ≡ zeroed r given → Blanked w used forced r v c u f → got w ≡ recover given
+    blanks r w q b = zeroed-as given r v c u f w (b .0) (b .1, b .2, b .3, b .4) ∙ sym q
 
-    pub recover-found : Bytes log → Found w₂ log (x .walk)
-    recover-found y =
-        let good = readLog-facts log (was-read .log) (was-read .read) .good y in
-        record {
-          form = log-form (was-read .log) store w₂ good (record { whole = t .store-sized; forms = t .formed-all }) again;
-          long = t .log-sized;
-          walk = ap (λ (y : Scan). y .walk) (t .scans);
-          ok = not-false _ (t .ok);
-        }
+  module _ (a : length work ≡ 16384) (b : length store ≡ 16384) (h : length log ≡ 8192) (x : Scan) (e : x ≡ scanned 0 log) where
+    sized : threeSized given ≡ true
+    sized = three-sized given a b h
 
-    pub recover-goes : (y : Left) → y ≡ completing d″ w₂ → y ≡ recover d″
-    recover-goes y g = g ∙ sym (recover-completes d″ whole (was-read .log) (was-read .read) (t .formed-all) none-newer w₂ again)
+    walked : x .walk ≡ (scanned 0 log) .walk
+    walked = ap (λ (y : Scan). y .walk) e
+
+    pub recover-broken! : (w : List ℕ) (v c u f : ℕ) → Blanked w used forced 2 v c u f → not (x .walk .ok) ≡ true → got v c u f w ≡ recover given
+    recover-broken! w v c u f l k =
+        blanks v c u f 2 w
+        (recover-unread given sized (unread-by log (readLog log) refl (sym (ap (λ (y : Walk). y .ok) walked) ∙ not-true _ k))) l
+
+    module _ (k : not (x .walk .ok) ≡ false) where
+      read : Was log (x .walk)
+      read = was log (x .walk) walked (not-false _ k)
+
+      last-is : noneNewer (x .walk .number .0) (pages store) ≡ noneNewer (atEnd (read .log) .number) (pages store)
+      last-is = ap (λ (n : ℕ). noneNewer n (pages store)) (number-is (atEnd (read .log)) (x .walk) (read .shows))
+
+      pub recover-reads! : there (readLog log) ≡ true
+      recover-reads! = there-some (readLog log) (read .log) (read .read)
+
+      module _ (y : Bool) (ye : y ≡ allFormed 0 (pages store)) where
+        pub recover-form! : (w : List ℕ) (v c u f : ℕ) → Blanked w used forced 3 v c u f → not y ≡ true → got v c u f w ≡ recover given
+        recover-form! w v c u f l i = blanks v c u f 3 w (recover-unformed given sized (read .log) (read .read) (sym ye ∙ not-true y i)) l
+
+        pub recover-ahead! : (z : Bool) → z ≡ noneNewer (x .walk .number .0) (pages store) → not z ≡ true → not y ≡ false
+            → (w : List ℕ) (v c u f : ℕ) → Blanked w used forced 4 v c u f → got v c u f w ≡ recover given
+        recover-ahead! z ze n i w v c u f l =
+            blanks v c u f 4 w
+            (recover-newer given sized (read .log) (read .read) (sym ye ∙ not-false y i) (sym last-is ∙ sym ze ∙ not-true z n)) l
+
+  module _ (x : Scan) (t : Tested work store log x) (w₁ : List ℕ) (copied : w₁ ≡ put 0 store work) (r : Bool) (w₂ : List ℕ) (q : Repeated log w₁ r w₂) where
+    start : w₁ ≡ store
+    start = copied ∙ put-whole store work (t .store-sized ∙ sym (t .work-sized))
+
+    whole : threeSized given ≡ true
+    whole = sized (t .work-sized) (t .store-sized) (t .log-sized) x (t .scans)
+
+    found-log : Was log (x .walk)
+    found-log = read (t .work-sized) (t .store-sized) (t .log-sized) x (t .scans) (t .ok)
+
+    none-newer : noneNewer (atEnd (found-log .log) .number) (pages store) ≡ true
+    none-newer = sym (last-is (t .work-sized) (t .store-sized) (t .log-sized) x (t .scans) (t .ok)) ∙ t .newer
+
+    pub recover-stuck! : (w : List ℕ) (v c u f : ℕ) → Blanked w used forced 5 v c u f → not r ≡ true → got v c u f w ≡ recover given
+    recover-stuck! w v c u f l m =
+        let undone = none-repeats log store (found-log .log) (found-log .read)
+        (sym (ap (λ (y : List ℕ). there (repeated log y)) start) ∙ sym (q .said) ∙ not-true _ m) in
+        blanks v c u f 5 w (recover-undone given whole (found-log .log) (found-log .read) (t .formed-all) none-newer undone) l
+
+    module _ (m : not r ≡ false) where
+      again : repeatAll (found-log .log .top .number + 1) (found-log .log .recs) store ≡ some w₂
+      again = some-repeats log store w₂ (found-log .log) (found-log .read) (sym (ap (repeated log) start) ∙ q .left (not-false _ m))
+
+      pub recover-found : Bytes log → Found w₂ log (x .walk)
+      recover-found y =
+          let good = readLog-facts log (found-log .log) (found-log .read) .good y in
+          record {
+            form = log-form (found-log .log) store w₂ good (record { whole = t .store-sized; forms = t .formed-all }) again;
+            long = t .log-sized;
+            walk = ap (λ (y : Scan). y .walk) (t .scans);
+            ok = not-false _ (t .ok);
+          }
+
+      pub recover-goes : (y : Left) → y ≡ completing given w₂ → y ≡ recover given
+      recover-goes y g = g ∙ sym (recover-completes given whole (found-log .log) (found-log .read) (t .formed-all) none-newer w₂ again)

@@ -1,7 +1,7 @@
 -- What one pass over the log has answered is what test 2 finds. Assumes nothing.
 use Prim.Native.Nat.{ℕ}
 use mathlib.Core.Path.{_≡_, refl, sym, ap, _∙_}
-use mathlib.Core.Bool.{Bool, true, false, not, false≢true}
+use mathlib.Core.Bool.{true, false, not, false≢true}
 use mathlib.Core.List.{List, []}
 use lib.ListN.{length}
 use mathlib.Core.Option.{Option, some, none}
@@ -9,7 +9,7 @@ use lib.Dec.{eqb}
 use borrow.Author.Tests.{eqb-true, eq-eqb, ne-eqb, not-true, not-false}
 use Rattle.field.specs.Bytes.{zeroes}
 use Rattle.field.specs.Test.{both, given, when, bind, there}
-use Rattle.field.proofs.Test.{both-1, both-intro, both-true, both-false, when-true, when-false}
+use Rattle.field.proofs.Test.{both-1, both-intro, both-true, both-false, both-no, when-true, when-false}
 use Rattle.log.specs.Log.{Open, State, Log, readLog, atEnd, lastForced}
 use Rattle.log.specs.Scan.{shown, lost, answer, scanned}
 use Rattle.log.specs.declared.scan.Scan.{Scan}
@@ -26,11 +26,6 @@ pub record Knows (d : Lent) (s : Scan) : Type 0 where
   pub is : known d ≡ some log
   pub walk : s .walk ≡ shown (atEnd log)
   pub forced : lastForced (d .forced) log ≡ some (s .forced .0)
-
-both-no : (b : Bool) → both b false ≡ false
-unfolding both
-both-no true = refl
-both-no false = refl
 
 -- a log that was read, and whether a record ends at forced
 module _ (d : Lent) (g : Log) where

@@ -11,7 +11,7 @@ use lib.Dec.{eqb}
 use borrow.Author.Tests.{not-true, not-false}
 use Rattle.field.specs.Test.{all}
 use Rattle.field.specs.Bytes.{part, zeroes, Bytes, le4}
-use Rattle.field.proofs.Test.{all-true, all-false, both-end}
+use Rattle.field.proofs.Test.{all-one, all-true, all-false}
 use Rattle.field.proofs.Part.{split}
 use Rattle.field.proofs.Zero.{getD-zeroes}
 use Rattle.page.specs.Page.{rowsOf, keyOf, toPage, pointing, count, rows}
@@ -100,10 +100,6 @@ module _ (w : List ℕ) (n : ℕ) (e : n ≡ count (page 0 w)) where
       rw (root-entries w, starts-head (rows 8 (page 0 w)) l, ← first-page 8 0 w (omega arith) more, g)
 
 -- ---- all clauses
-
-all-one : (b : Bool) → all (b ∷ []) ≡ b
-unfolding all
-all-one b = both-end b
 
 module _ (w : List ℕ) where
   clauses : (a b c d e : Bool) → Bool

@@ -12,7 +12,7 @@ use lib.Dec.{eqb, leb}
 use borrow.Author.Tests.{leb-true, eq-eqb, ne-eqb, le-leb, lt-leb, not-true, not-false}
 use Rattle.field.specs.Test.{both, all, pick, given, when, bind, there}
 use Rattle.field.specs.Bytes.{part, same, le4}
-use Rattle.field.proofs.Test.{both-1, both-2, both-true, both-false, both-end, all-head, all-tail, all-true, all-false, pick-true, pick-false, when-false}
+use Rattle.field.proofs.Test.{both-1, both-2, both-true, both-false, both-end, all-head, all-tail, all-one, all-true, all-false, pick-true, pick-false, when-false}
 use Rattle.field.proofs.Part.{split}
 use Rattle.field.proofs.Same.{same-eq}
 use Rattle.page.specs.Page.{rowsOf, joined, keyOf, toPage, ascend, ascendRecords, count, rows, entries, records, isBase, isLeaf, isEmpty}
@@ -156,10 +156,6 @@ ascend-follow lo k rs h e =
     let q : rowsOf 16 k rs ≡ part 0 16 rs ∷ rowsOf 16 (k - 1) (drop (0 + 16) rs) = rows-next 16 k 0 rs h in
     let r : ascendRecords 0 (part 0 16 rs ∷ rowsOf 16 (k - 1) (drop (0 + 16) rs)) ≡ true = rw q at e in
     rw q (ascend-first 114 99 lo (part 0 16 rs) (rowsOf 16 (k - 1) (drop (0 + 16) rs)) r) ∙ ap (leb lo) (key-row 16 0 rs (omega arith))
-
-all-one : (b : Bool) → all (b ∷ []) ≡ b
-unfolding all
-all-one b = both-end b
 
 -- the test of an LI: its page, the room there, its keys
 abbrev test : (k : ℕ) (rs pg : List ℕ) → Bool

@@ -19,5 +19,5 @@ module _ {R : Type 0} {A : ℕ → R → Type 0} where
 
   -- one more
   pub each-snoc : {n m : ℕ} {rs : List R} (r : R) → m ≡ n + length rs → Each A n rs → A m r → Each A n (rs ++ (r ∷ []))
-  each-snoc {n} {m} r e none b = let i : m ≡ n = omega arith in rw i at (also b none)
+  each-snoc {n} {m} r e none b = let i : m ≡ n = omega arith in also (rw i at b) none
   each-snoc r e (also a h) b = also a (each-snoc r (omega arith) h b)

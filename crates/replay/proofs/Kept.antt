@@ -301,7 +301,7 @@ module _ (F : Format) (M : Meaning F) (P : PageLaws F M) (U : UnitLaws F M) wher
 
   module _ {o s : Pages} {c : Check} {l : List Rec} {f : ℕ} (k : Lost F M o s c l f) where
     -- the pages that the log gives
-    lost-way : (v : Pages) × Way F M o s c l v
+    pub lost-way : (v : Pages) × Way F M o s c l v
     lost-way = let (v, q) = k .ways (length l) (k .forced) (omega arith) in (v, rw (take-length l) at q)
 
     -- recovery carried out

@@ -21,5 +21,5 @@ module _ {R X : Type 0} {D : ℕ → R → X → X → Type 0} where
 
   -- one record after a run
   pub run-snoc : {n m : ℕ} {rs : List R} {r : R} {x z y : X} → m ≡ n + length rs → Runs D n rs x z → D m r z y → Runs D n (rs ++ (r ∷ [])) x y
-  run-snoc {n} {m} e done d = let i : m ≡ n = omega arith in rw i at (then d done)
+  run-snoc {n} {m} e done d = let i : m ≡ n = omega arith in then (rw i at d) done
   run-snoc e (then a h) d = then a (run-snoc (omega arith) h d)

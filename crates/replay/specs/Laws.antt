@@ -78,6 +78,6 @@ module _ (F : Format) (M : Meaning F) where
         → Settled F M w′ w′ c′ [] × (w′ ≡ s′)
     pub rewritten : (o : Pages) (c : Check) (w w′ : Pages) (l : List Rec) → Formed F M w → Able o c w l → Event c w l w′
         → Rewritten o c w l w′
-    -- a cut in a checkpoint leaves what a rewriting makes; behind l too, where the records t that are lost concern no page
+    -- what a checkpoint after l and t leaves when it is cut, a rewriting after l makes, where the records t, which may be lost, concern no page
     pub torn : (o : Pages) (c : Check) (w s : Pages) (l t : List Rec) → Settled F M o w c (l ++ t) → Tears c w (l ++ t) s
         → ((p : ℕ) → p < many → Each (Passes p) (last F c l + 1) t) → Event c w l s

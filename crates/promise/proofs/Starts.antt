@@ -231,6 +231,6 @@ built-live rs f g d b e q =
     (x .leaves) (x .bases) in
     let s : Settled store asked (layout f g rows) (layout f g rows) newest [] =
     settled-bare (layout f g rows) newest (l .whole) (l .bytes) newest-stored (l .form) (low-zero _ (layout f g rows) (l .stamps)) (l .tree) in
+    let m : allRecords (pages (layout f g rows)) ≡ rs = l .holds ∙ sym q in
     let z = x .is ∙ ap (λ (i : List ℕ). left 0 [] (lent 24 24 (layout f g rows) (layout f g rows) i (d .bytes))) (sym (image-bare newest)) in
-    (subst (λ (y : Left). Live rs (y .now .work) (y .now)) (sym z) (live-bare rs (layout f g rows) (d .bytes) newest s (l .holds ∙ sym q)),
-    sym (ap (λ (y : Left). y .now .forced) z))
+    (subst (λ (y : Left). Live rs (y .now .work) (y .now)) (sym z) (live-bare rs (layout f g rows) (d .bytes) newest s m), sym (ap (λ (y : Left). y .now .forced) z))

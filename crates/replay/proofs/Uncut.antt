@@ -34,7 +34,7 @@ module _ (F : Format) (M : Meaning F) (P : PageLaws F M) (U : UnitLaws F M) wher
       record {
         formed = s .formed;
         shape = able-shape F M (s .able);
-        low = s .low;
+        low = λ p i. omega (arith, s .low p i);
         fine = able-fine F M (s .able) z;
         complete = z;
       }
@@ -81,7 +81,13 @@ module _ (F : Format) (M : Meaning F) (P : PageLaws F M) (U : UnitLaws F M) wher
   -- every uncut run from settled pages
   pub sound : {o w : Pages} {c : Check} {l : List Rec} → Settled F M o o c [] → Uncut F M o c w l → Sound F M o c w l
   sound g Uncut.start =
-      record { formed = g .formed; able = closed (g .shape) (g .complete) (g .fine); low = g .low; quiet = λ p i. none; stood = none }
+      record {
+        formed = g .formed;
+        able = closed (g .shape) (g .complete) (g .fine);
+        low = λ p i. omega (arith, g .low p i);
+        quiet = λ p i. none;
+        stood = none;
+      }
   sound {o = o} {c = c} g (Uncut.begin {w = w} {w′ = w′} {l = l} {r = r} u z h e) =
       let s = sound g u in
       sound-snoc l r s (U .unit o c w w′ l r (sound-settled s z) h e) e

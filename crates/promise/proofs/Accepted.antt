@@ -26,13 +26,13 @@ use Rattle.store.proofs.Chain.{not-there}
 use Rattle.replay.specs.Store.{Settled}
 use Rattle.replay.specs.Store as Replay
 use Rattle.replay.specs.Laws.{UnitLaws}
-use Rattle.replay.proofs.Theorem.{work-settled, uncut-reached}
+use Rattle.replay.proofs.Theorem.{ran-settled}
 use Rattle.promise.specs.Parts.{logOf, stateOf, store, asked, Begins}
 use Rattle.promise.specs.Promise.{Uncut}
 use Rattle.promise.proofs.OnPages.{page-laws}
 use Rattle.promise.proofs.Image.{image, put-image, at-grown}
 use Rattle.promise.proofs.Standing.{last-fits}
-use Rattle.promise.proofs.Live.{Live, image-bare, stored, two-sized, known-live}
+use Rattle.promise.proofs.Live.{Ran, image-bare, stored, two-sized, known-ran}
 use Rattle.promise.proofs.Called.{Some, ending-some, bare-at, nothing-forced, step-is, apply-begin}
 
 -- no steps to come: no unit is open
@@ -51,7 +51,7 @@ abbrev Fitting : (c : Check) (l : List Rec) (w : List ℕ) (g : Begin) → Type 
 Fitting c l w g =
     (stateOf c l .at + (size (LB g) + room w (plan g)) ≤ logLength) × (stateOf c l .number + (1 + length (plan g)) ≤ most4) × (g .unit ≤ most4)
 
-module _ (rs : List (List ℕ)) (U : UnitLaws store (asked rs)) {origin : List ℕ} (d : Lent) (v : Live rs origin d) where
+module _ (U : UnitLaws store asked) {origin : List ℕ} (d : Lent) (v : Ran origin d) where
   -- ---- begin
 
   begin-is : (g : Begin) (choose : ℕ → List (List ℕ) → Option Begin) → length (todoOf (stateOf (v .top) (v .recs) .opened)) ≡ 0
@@ -59,9 +59,9 @@ module _ (rs : List (List ℕ)) (U : UnitLaws store (asked rs)) {origin : List �
       → beginWith d (stateOf (v .top) (v .recs)) choose ≡ left 0 [] (grownBy d (v .top) (v .recs) (LB g) (d .work))
   unfolding beginWith begun
   begin-is g choose z e b =
-      let s : Settled store (asked rs) (d .work) (v .top) (v .recs) = work-settled store (asked rs) (page-laws rs) U (v .reached) z in
+      let s : Settled store asked origin (d .work) (v .top) (v .recs) = ran-settled store asked page-laws U (v .settled) (v .uncut) z in
       let o : stateOf (v .top) (v .recs) .opened ≡ none =
-      open-none (stateOf (v .top) (v .recs) .opened) (sound-atEnd (logOf (v .top) (v .recs)) (stored rs U d v .good) .waits) z in
+      open-none (stateOf (v .top) (v .recs) .opened) (sound-atEnd (logOf (v .top) (v .recs)) (stored U d v .good) .waits) z in
       need-true _ (refused 0 9 d) _ (not-there (stateOf (v .top) (v .recs) .opened) o)
       ∙ need-true _ (refused 0 3 d) _ (formed-pages (d .work) (s .formed .form))
       ∙ need-true _ (refused 0 8 d) _ (s .fine .0)
@@ -74,8 +74,8 @@ module _ (rs : List (List ℕ)) (U : UnitLaws store (asked rs)) {origin : List �
       → Fitting (v .top) (v .recs) (d .work) g → Calls.beginCompact fill d ≡ left 0 [] (grownBy d (v .top) (v .recs) (LB g) (d .work))
   unfolding Calls.beginCompact
   compact-is fill g h z e b =
-      need-true _ (refused 0 1 d) _ (two-sized rs U d v)
-      ∙ given-some _ (logOf (v .top) (v .recs)) (refused 0 2 d) _ (known-live rs U d v)
+      need-true _ (refused 0 1 d) _ (two-sized U d v)
+      ∙ given-some _ (logOf (v .top) (v .recs)) (refused 0 2 d) _ (known-ran U d v)
       ∙ need-true _ (refused 0 12 d) _ (le-leb fill 15 h)
       ∙ begin-is g _ z e b
 
@@ -84,8 +84,8 @@ module _ (rs : List (List ℕ)) (U : UnitLaws store (asked rs)) {origin : List �
       → Calls.beginOrder d ≡ left 0 [] (grownBy d (v .top) (v .recs) (LB g) (d .work))
   unfolding Calls.beginOrder
   order-is g z e b =
-      need-true _ (refused 0 1 d) _ (two-sized rs U d v)
-      ∙ given-some _ (logOf (v .top) (v .recs)) (refused 0 2 d) _ (known-live rs U d v)
+      need-true _ (refused 0 1 d) _ (two-sized U d v)
+      ∙ given-some _ (logOf (v .top) (v .recs)) (refused 0 2 d) _ (known-ran U d v)
       ∙ begin-is g orderUnit z e b
 
 -- ---- an uncut run is a run of calls
@@ -94,14 +94,15 @@ module _ (rs : List (List ℕ)) (U : UnitLaws store (asked rs)) {origin : List �
 abbrev pub ran : (o : List ℕ) (c : Check) (w : List ℕ) (l : List Rec) → Lent
 ran o c w l = lent (stateOf c l .at) 24 w o (image c l) []
 
-module _ (rs : List (List ℕ)) (U : UnitLaws store (asked rs)) (o : List ℕ) (c : Check) (g : Settled store (asked rs) o c []) where
-  abbrev live-ran : (w : List ℕ) (l : List Rec) → Replay.Uncut store (asked rs) o c w l → Live rs o (ran o c w l)
-  live-ran w l u =
+module _ (U : UnitLaws store asked) (o : List ℕ) (c : Check) (g : Settled store asked o o c []) where
+  abbrev uncut-ran : (w : List ℕ) (l : List Rec) → Replay.Uncut store asked o c w l → Ran o (ran o c w l)
+  uncut-ran w l u =
       record {
         top = c;
         recs = l;
         many = 0;
-        reached = uncut-reached store (asked rs) (page-laws rs) U g u;
+        settled = g;
+        uncut = u;
         log = refl;
         numbered = record { used = refl; forced = none-forced l; among = omega arith };
       }
@@ -124,7 +125,7 @@ module _ (rs : List (List ℕ)) (U : UnitLaws store (asked rs)) (o : List ℕ) (
     by-order e = subst (Uncut o c) (ap (λ (x : Left). x .now) e ∙ ran-grown w w l r good more) (Uncut.order h (ap (λ (x : Left). x .reply) e))
 
   -- a begin of the generic run is one of the two calls
-  begins-call : (w : List ℕ) (l : List Rec) (r : Rec) (u : Replay.Uncut store (asked rs) o c w l) → length (todoOf (stateOf c l .opened)) ≡ 0
+  begins-call : (w : List ℕ) (l : List Rec) (r : Rec) (u : Replay.Uncut store asked o c w l) → length (todoOf (stateOf c l .opened)) ≡ 0
       → Begins c w l r → Uncut o c (ran o c w l) → Good (logOf c l) → Good (logOf c (l ++ (r ∷ []))) → Uncut o c (ran o c w (l ++ (r ∷ [])))
   begins-call w l r u z b h good more =
       let g : Begin = b .begun in
@@ -133,11 +134,11 @@ module _ (rs : List (List ℕ)) (U : UnitLaws store (asked rs)) (o : List ℕ) (
       (λ (x : (fill : ℕ) × (fill ≤ 15) × (compactUnit (stateOf c l .unit + 1) fill (stateOf c l .lk) (pages w) ≡ some g)).
       by-compact w l r h good more (x .0)
       (subst (λ (y : Rec). Calls.beginCompact (x .0) (ran o c w l) ≡ left 0 [] (grownBy (ran o c w l) c l y w)) (sym (b .is))
-      (compact-is rs U (ran o c w l) (live-ran w l u) (x .0) g (x .1) z (x .2) f)))
+      (compact-is U (ran o c w l) (uncut-ran w l u) (x .0) g (x .1) z (x .2) f)))
       (λ (x : orderUnit (stateOf c l .unit + 1) (pages w) ≡ some g).
       by-order w l r h good more
       (subst (λ (y : Rec). Calls.beginOrder (ran o c w l) ≡ left 0 [] (grownBy (ran o c w l) c l y w)) (sym (b .is))
-      (order-is rs U (ran o c w l) (live-ran w l u) g z x f)))
+      (order-is U (ran o c w l) (uncut-ran w l u) g z x f)))
       (b .chosen)
 
   -- it changes no page
@@ -145,10 +146,10 @@ module _ (rs : List (List ℕ)) (U : UnitLaws store (asked rs)) (o : List ℕ) (
   begins-pages w w′ l r n b e =
       Option·some-injective w w′ (sym (apply-begin n (b .begun) w) ∙ sym (ap (λ (y : Rec). apply n y w) (b .is)) ∙ e)
 
-  good-of : (w : List ℕ) (l : List Rec) → Replay.Uncut store (asked rs) o c w l → Good (logOf c l)
-  good-of w l u = stored rs U (ran o c w l) (live-ran w l u) .good
+  good-of : (w : List ℕ) (l : List Rec) → Replay.Uncut store asked o c w l → Good (logOf c l)
+  good-of w l u = stored U (ran o c w l) (uncut-ran w l u) .good
 
-  pub run-calls : {w : List ℕ} {l : List Rec} → Replay.Uncut store (asked rs) o c w l → Uncut o c (ran o c w l)
+  pub run-calls : {w : List ℕ} {l : List Rec} → Replay.Uncut store asked o c w l → Uncut o c (ran o c w l)
   run-calls Replay.Uncut.start =
       subst₂ (λ (a : ℕ) (b : List ℕ). Uncut o c (lent a 24 o o b [])) (sym (bare-at c)) (sym (image-bare c)) Uncut.start
   run-calls (Replay.Uncut.begin {w = w} {w′ = w′} {l = l} {r = r} u z b e) =
@@ -157,5 +158,6 @@ module _ (rs : List (List ℕ)) (U : UnitLaws store (asked rs)) (o : List ℕ) (
       subst (λ (y : List ℕ). Uncut o c (ran o c y (l ++ (r ∷ [])))) (begins-pages w w′ l r _ b e) (begins-call w l r u z b h (good-of w l u) more)
   run-calls (Replay.Uncut.step {w = w} {w′ = w′} {l = l} {r = r} {k = k} u z n e) =
       let h : Uncut o c (ran o c w l) = run-calls u in
-      let q = step-is rs U (ran o c w l) (live-ran w l u) k r w′ z n e in
+      let q = step-is U (ran o c w l) (uncut-ran w l u) k r w′ z n e in
       subst (Uncut o c) (ap (λ (x : Left). x .now) q) (Uncut.onward h (ap (λ (x : Left). x .reply) q))
+  run-calls (Replay.Uncut.event u h) = absurd h

@@ -29,16 +29,16 @@ use Rattle.unit.specs.Next.{target, changedAt, apply, targetOf}
 use Rattle.unit.proofs.Places.{Keeping, one-more, StepKeeps, OpenKeeps, end-keeps}
 use Rattle.store.specs.Calls.{Lent, lent, Left, left, refused, logLength, Went, stopped, formedAt, stepWith, stepped, append, todoOf, begun, beginWith, checkpointed, answered}
 use Rattle.store.specs.Calls as Calls
-use Rattle.replay.specs.Store.{Formed, Settled, Reached}
+use Rattle.replay.specs.Store.{Formed, Settled, Uncut, Reached}
 use Rattle.replay.specs.Laws.{UnitLaws}
-use Rattle.replay.proofs.Theorem.{work-settled, step-accepted}
+use Rattle.replay.proofs.Theorem.{ran-shape, ran-settled, ran-step}
 use Rattle.promise.specs.Parts.{logOf, stateOf, store, asked, Chooses, Begins, Checks}
 use Rattle.promise.proofs.OnPages.{page-laws}
 use Rattle.promise.proofs.Image.{image, put-image, at-grown, forced-image}
 use Rattle.promise.proofs.Forward.{Next, next-facts, next-at, apply-at, append-is}
 use Rattle.promise.proofs.Standing.{last-fits}
 use Rattle.promise.proofs.Refused.{refused-now}
-use Rattle.promise.proofs.Live.{Live, live-room, image-bare, stored-of, stored, work-pages, two-sized, known-live, live-grown}
+use Rattle.promise.proofs.Live.{Live, live-room, image-bare, Ran, stored-of, ran-of, stored, work-pages, two-sized, known-ran, live-grown}
 
 module _ {rs : List (List ℕ)} {origin : List ℕ} {d : Lent} where
   -- a state that a call leaves is the one that it was lent
@@ -84,25 +84,25 @@ some-open none k e = absurd (omega arith)
 some-open (some o) k e = (o, refl)
 
 -- the page that a step changes is one of the 64, and in form
-pub formed-target : {rs : List (List ℕ)} (x : Step) (w : List ℕ) → StepKeeps x → Formed store (asked rs) w → formedAt (targetOf x) w ≡ true
+formed-target : (x : Step) (w : List ℕ) → StepKeeps x → Formed store asked w → formedAt (targetOf x) w ≡ true
 unfolding formedAt targetOf
 formed-target (Rattle.log.specs.Plan.takeOut org dest) w k f = f .form org (omega (arith, k .1))
 formed-target (Rattle.log.specs.Plan.bringIn org dest back) w k f = f .form dest (omega (arith, k .1))
 formed-target (Rattle.log.specs.Plan.point base old new other) w k f = f .form base (omega (arith, k .0 .1))
 formed-target (Rattle.log.specs.Plan.close unit) w k f = refl
 
-pub keeps-head : (x : Step) (xs ts : List Step) → ts ≡ x ∷ xs → Keeping ts → StepKeeps x
+keeps-head : (x : Step) (xs ts : List Step) → ts ≡ x ∷ xs → Keeping ts → StepKeeps x
 keeps-head x xs ts e k = head (subst Keeping e k)
   where
     head : Keeping (x ∷ xs) → StepKeeps x
     head (one-more h r) = h
 
-pub todo-of : (o : Option Open) (u : Open) (ts : List Step) → o ≡ some u → u .todo ≡ ts → todoOf o ≡ ts
+todo-of : (o : Option Open) (u : Open) (ts : List Step) → o ≡ some u → u .todo ≡ ts → todoOf o ≡ ts
 unfolding todoOf
 todo-of o u ts e t = rw e t
 
 -- a step past test 3
-pub step-with : (ts : List Step) (x : Step) (xs : List Step) (s : State) (w b : List ℕ) (y : Went) → ts ≡ x ∷ xs → formedAt (targetOf x) w ≡ true
+step-with : (ts : List Step) (x : Step) (xs : List Step) (s : State) (w b : List ℕ) (y : Went) → ts ≡ x ∷ xs → formedAt (targetOf x) w ≡ true
     → append x xs s w b ≡ y → stepWith ts s w b ≡ y
 unfolding stepWith
 step-with ts x xs s w b y t f e = rw t (need-true (formedAt (targetOf x) w) (stopped 3) (append x xs s w b) f ∙ e)
@@ -121,14 +121,66 @@ pub apply-begin : (n : ℕ) (g : Begin) (w : List ℕ) → apply n (LB g) w ≡ 
 unfolding apply target changedAt
 apply-begin n g w = refl
 
-module _ (rs : List (List ℕ)) (U : UnitLaws store (asked rs)) {origin : List ℕ} (d : Lent) (v : Live rs origin d) where
+module _ (U : UnitLaws store asked) {origin : List ℕ} (d : Lent) (v : Ran origin d) where
   -- between two units the work pages are a well-formed tree in form
-  pub settled : stateOf (v .top) (v .recs) .opened ≡ none → Settled store (asked rs) (d .work) (v .top) (v .recs)
-  settled e = work-settled store (asked rs) (page-laws rs) U (v .reached) (none-left (stateOf (v .top) (v .recs) .opened) e)
+  pub settled : stateOf (v .top) (v .recs) .opened ≡ none → Settled store asked origin (d .work) (v .top) (v .recs)
+  settled e = ran-settled store asked page-laws U (v .settled) (v .uncut) (none-left (stateOf (v .top) (v .recs) .opened) e)
+
+  -- the step that the generic half gives is accepted, and is what the call does
+  pub step-is : (k : ℕ) (r : Rec) (w′ : List ℕ) → length (todoOf (stateOf (v .top) (v .recs) .opened)) ≡ suc k
+      → store .next (v .top) (d .work) (v .recs) ≡ some r → apply (v .top .number + length (v .recs) + 1) r (d .work) ≡ some w′
+      → Calls.step d
+      ≡ left 0 [] (lent (stateOf (v .top) (v .recs ++ (r ∷ [])) .at) (d .forced) w′ (d .store) (image (v .top) (v .recs ++ (r ∷ []))) (d .bytes))
+  unfolding Calls.step stepped
+  step-is k r w′ z next applies =
+      let g : Good (logOf (v .top) (v .recs)) = stored U d v .good in
+      let (o, e) = some-open (stateOf (v .top) (v .recs) .opened) k z in
+      let a : Awaits (stateOf (v .top) (v .recs) .unit) o =
+      waits-open (subst (Waits (stateOf (v .top) (v .recs) .unit)) e (sound-atEnd (logOf (v .top) (v .recs)) g .waits)) in
+      let t : Some (o .todo) = ending-some (a .todo) in
+      let x : Step = t .head in
+      let xs : List Step = t .tail in
+      let todo : todoOf (stateOf (v .top) (v .recs) .opened) ≡ x ∷ xs = todo-of (stateOf (v .top) (v .recs) .opened) o (x ∷ xs) e (t .is) in
+      let n : Next x xs (stateOf (v .top) (v .recs)) (d .work) r =
+      next-facts x xs (stateOf (v .top) (v .recs)) (d .work) r
+      (next-at (stateOf (v .top) (v .recs)) (d .work) (todoOf (stateOf (v .top) (v .recs) .opened)) (x ∷ xs) r todo next) in
+      let h : Good (logOf (v .top) (v .recs ++ (r ∷ []))) =
+      ran-shape store asked page-laws U (v .settled) (Uncut.step (v .uncut) z next applies) .0 in
+      let k′ : StepKeeps x = keeps-head x xs (o .todo) (t .is) (subst OpenKeeps e (end-keeps (logOf (v .top) (v .recs)) g)) in
+      let f : formedAt (targetOf x) (d .work) ≡ true = formed-target x (d .work) k′ (work-pages U d v) in
+      need-true _ (refused 0 1 d) _ (two-sized U d v)
+      ∙ given-some _ (logOf (v .top) (v .recs)) (refused 0 2 d) _ (known-ran U d v)
+      ∙ given-some _ o (refused 0 10 d) _ e
+      ∙ ap (stepped d)
+      (step-with (o .todo) x xs (stateOf (v .top) (v .recs)) (d .work) (d .log) _ (t .is) f
+      (ap (append x xs (stateOf (v .top) (v .recs)) (d .work)) (v .log)
+      ∙ append-is (v .top) (v .recs) x xs (d .work) w′ r g (last-fits (v .top) (v .recs) r h) n
+      (apply-at (v .top .number + length (v .recs)) (stateOf (v .top) (v .recs) .number) r (d .work) w′ (sym (number-atEnd (logOf (v .top) (v .recs)))) applies)))
+
+  -- no unit is open
+  pub step-none : stateOf (v .top) (v .recs) .opened ≡ none → Calls.step d ≡ refused 0 10 d
+  unfolding Calls.step
+  step-none e =
+      need-true _ (refused 0 1 d) _ (two-sized U d v)
+      ∙ given-some _ (logOf (v .top) (v .recs)) (refused 0 2 d) _ (known-ran U d v)
+      ∙ given-none _ (refused 0 10 d) _ e
+
+  -- an open unit still lacks records
+  pub open-left : (o : Open) → stateOf (v .top) (v .recs) .opened ≡ some o → (k : ℕ) × (length (todoOf (stateOf (v .top) (v .recs) .opened)) ≡ suc k)
+  open-left o e =
+      let a : Awaits (stateOf (v .top) (v .recs) .unit) o =
+      waits-open (subst (Waits (stateOf (v .top) (v .recs) .unit)) e (sound-atEnd (logOf (v .top) (v .recs)) (stored U d v .good) .waits)) in
+      let t : Some (o .todo) = ending-some (a .todo) in
+      (length (t .tail), ap length (todo-of (stateOf (v .top) (v .recs) .opened) o (t .head ∷ t .tail) e (t .is)))
+
+module _ (U : UnitLaws store asked) {rs : List (List ℕ)} {origin : List ℕ} (d : Lent) (v : Live rs origin d) where
+  -- its work pages and log, as those of an uncut run
+  abbrev here : Ran origin d
+  here = ran-of U v
 
   -- ---- begin
 
-  pub begun-live : (g : Begin) → stateOf (v .top) (v .recs) .opened ≡ none → Chooses (stateOf (v .top) (v .recs)) (d .work) g
+  begun-live : (g : Begin) → stateOf (v .top) (v .recs) .opened ≡ none → Chooses (stateOf (v .top) (v .recs)) (d .work) g
       → Live rs origin (begun d (stateOf (v .top) (v .recs)) g .now)
   unfolding begun
   begun-live g e ch =
@@ -142,7 +194,7 @@ module _ (rs : List (List ℕ)) (U : UnitLaws store (asked rs)) {origin : List �
         numbered = leb-true _ most4 (both-1 _ _ nums);
         unit = leb-true (g .unit) most4 (both-2 _ _ nums);
       } in
-      live-grown rs U d v (LB g) (d .work)
+      live-grown U d v (LB g) (d .work)
       (Reached.begin (v .reached) (none-left (stateOf (v .top) (v .recs) .opened) e) b (apply-begin _ g (d .work)))))
 
   begin-live : (choose : ℕ → List (List ℕ) → Option Begin)
@@ -156,86 +208,39 @@ module _ (rs : List (List ℕ)) (U : UnitLaws store (asked rs)) {origin : List �
   pub begin-compact-live : (fill : ℕ) → Live rs origin (Calls.beginCompact fill d .now)
   unfolding Calls.beginCompact
   begin-compact-live fill =
-      by-test _ 0 1 _ v (λ sized. rw (given-some _ (logOf (v .top) (v .recs)) (refused 0 2 d) _ (known-live rs U d v))
+      by-test _ 0 1 _ v (λ sized. rw (given-some _ (logOf (v .top) (v .recs)) (refused 0 2 d) _ (known-ran U d here))
       (by-test _ 0 12 _ v (λ ok. begin-live _ (λ g e. inl (fill, leb-true fill 15 ok, e)))))
 
   pub begin-order-live : Live rs origin (Calls.beginOrder d .now)
   unfolding Calls.beginOrder
   begin-order-live =
-      by-test _ 0 1 _ v (λ sized. rw (given-some _ (logOf (v .top) (v .recs)) (refused 0 2 d) _ (known-live rs U d v))
+      by-test _ 0 1 _ v (λ sized. rw (given-some _ (logOf (v .top) (v .recs)) (refused 0 2 d) _ (known-ran U d here))
       (begin-live orderUnit (λ g e. inr e)))
 
   -- ---- step
 
   -- the log after the record r, as bytes
-  pub log-grown : (r : Rec) → Good (logOf (v .top) (v .recs ++ (r ∷ [])))
+  log-grown : (r : Rec) → Good (logOf (v .top) (v .recs ++ (r ∷ [])))
       → put (stateOf (v .top) (v .recs) .at) (encode (stateOf (v .top) (v .recs) .number + 1) r) (d .log) ≡ image (v .top) (v .recs ++ (r ∷ []))
   log-grown r g =
       ap (put (stateOf (v .top) (v .recs) .at) (encode (stateOf (v .top) (v .recs) .number + 1) r)) (v .log)
-      ∙ put-image (v .top) (v .recs) r (stored rs U d v .good) (last-fits (v .top) (v .recs) r g)
-
-  -- the step that the generic half gives is accepted, and is what the call does
-  pub step-is : (k : ℕ) (r : Rec) (w′ : List ℕ) → length (todoOf (stateOf (v .top) (v .recs) .opened)) ≡ suc k
-      → store .next (v .top) (d .work) (v .recs) ≡ some r → apply (v .top .number + length (v .recs) + 1) r (d .work) ≡ some w′
-      → Calls.step d
-      ≡ left 0 [] (lent (stateOf (v .top) (v .recs ++ (r ∷ [])) .at) (d .forced) w′ (d .store) (image (v .top) (v .recs ++ (r ∷ []))) (d .bytes))
-  unfolding Calls.step stepped
-  step-is k r w′ z next applies =
-      let g : Good (logOf (v .top) (v .recs)) = stored rs U d v .good in
-      let (o, e) = some-open (stateOf (v .top) (v .recs) .opened) k z in
-      let a : Awaits (stateOf (v .top) (v .recs) .unit) o =
-      waits-open (subst (Waits (stateOf (v .top) (v .recs) .unit)) e (sound-atEnd (logOf (v .top) (v .recs)) g .waits)) in
-      let t : Some (o .todo) = ending-some (a .todo) in
-      let x : Step = t .head in
-      let xs : List Step = t .tail in
-      let todo : todoOf (stateOf (v .top) (v .recs) .opened) ≡ x ∷ xs = todo-of (stateOf (v .top) (v .recs) .opened) o (x ∷ xs) e (t .is) in
-      let n : Next x xs (stateOf (v .top) (v .recs)) (d .work) r =
-      next-facts x xs (stateOf (v .top) (v .recs)) (d .work) r
-      (next-at (stateOf (v .top) (v .recs)) (d .work) (todoOf (stateOf (v .top) (v .recs) .opened)) (x ∷ xs) r todo next) in
-      let h : Reached store (asked rs) origin (some w′) (d .store) (v .top) (v .recs ++ (r ∷ [])) (v .many) =
-      Reached.step (v .reached) z next applies in
-      let k′ : StepKeeps x = keeps-head x xs (o .todo) (t .is) (subst OpenKeeps e (end-keeps (logOf (v .top) (v .recs)) g)) in
-      let f : formedAt (targetOf x) (d .work) ≡ true = formed-target x (d .work) k′ (work-pages rs U d v) in
-      need-true _ (refused 0 1 d) _ (two-sized rs U d v)
-      ∙ given-some _ (logOf (v .top) (v .recs)) (refused 0 2 d) _ (known-live rs U d v)
-      ∙ given-some _ o (refused 0 10 d) _ e
-      ∙ ap (stepped d)
-      (step-with (o .todo) x xs (stateOf (v .top) (v .recs)) (d .work) (d .log) _ (t .is) f
-      (ap (append x xs (stateOf (v .top) (v .recs)) (d .work)) (v .log)
-      ∙ append-is (v .top) (v .recs) x xs (d .work) w′ r g (last-fits (v .top) (v .recs) r (stored-of rs U h .good)) n
-      (apply-at (v .top .number + length (v .recs)) (stateOf (v .top) (v .recs) .number) r (d .work) w′ (sym (number-atEnd (logOf (v .top) (v .recs)))) applies)))
-
-  -- no unit is open
-  pub step-none : stateOf (v .top) (v .recs) .opened ≡ none → Calls.step d ≡ refused 0 10 d
-  unfolding Calls.step
-  step-none e =
-      need-true _ (refused 0 1 d) _ (two-sized rs U d v)
-      ∙ given-some _ (logOf (v .top) (v .recs)) (refused 0 2 d) _ (known-live rs U d v)
-      ∙ given-none _ (refused 0 10 d) _ e
+      ∙ put-image (v .top) (v .recs) r (stored-of U (v .reached) .good) (last-fits (v .top) (v .recs) r g)
 
   step-open : (k : ℕ) → length (todoOf (stateOf (v .top) (v .recs) .opened)) ≡ suc k → Live rs origin (Calls.step d .now)
   step-open k z =
-      let (r, w′, next, applies, fewer) = step-accepted store (asked rs) (page-laws rs) U (v .reached) z in
-      let h : Reached store (asked rs) origin (some w′) (d .store) (v .top) (v .recs ++ (r ∷ [])) (v .many) =
+      let (r, w′, next, applies, fewer) = ran-step store asked page-laws U (here .settled) (here .uncut) z in
+      let h : Reached store asked origin (some w′) (d .store) (v .top) (v .recs ++ (r ∷ [])) (v .many) =
       Reached.step (v .reached) z next applies in
-      rw (step-is k r w′ z next applies)
+      rw (step-is U d here k r w′ z next applies)
       (subst₂ (λ (a : ℕ) (b : List ℕ). Live rs origin (lent a (d .forced) w′ (d .store) b (d .bytes))) (sym (at-grown (v .top) (v .recs) r))
-      (log-grown r (stored-of rs U h .good)) (live-grown rs U d v r w′ h))
-
-  -- an open unit still lacks records
-  pub open-left : (o : Open) → stateOf (v .top) (v .recs) .opened ≡ some o → (k : ℕ) × (length (todoOf (stateOf (v .top) (v .recs) .opened)) ≡ suc k)
-  open-left o e =
-      let a : Awaits (stateOf (v .top) (v .recs) .unit) o =
-      waits-open (subst (Waits (stateOf (v .top) (v .recs) .unit)) e (sound-atEnd (logOf (v .top) (v .recs)) (stored rs U d v .good) .waits)) in
-      let t : Some (o .todo) = ending-some (a .todo) in
-      (length (t .tail), ap length (todo-of (stateOf (v .top) (v .recs) .opened) o (t .head ∷ t .tail) e (t .is)))
+      (log-grown r (stored-of U h .good)) (live-grown U d v r w′ h))
 
   pub step-live : Live rs origin (Calls.step d .now)
   step-live = by-open (stateOf (v .top) (v .recs) .opened) refl
     where
       by-open : (o : Option Open) → stateOf (v .top) (v .recs) .opened ≡ o → Live rs origin (Calls.step d .now)
-      by-open none e = rw (step-none e) (live-same (refused 0 10 d) (refused-now 0 10 d) v)
-      by-open (some o) e = let (k, z) = open-left o e in step-open k z
+      by-open none e = rw (step-none U d here e) (live-same (refused 0 10 d) (refused-now 0 10 d) v)
+      by-open (some o) e = let (k, z) = open-left U d here o e in step-open k z
 
   -- ---- flush, force, checkpoint
 
@@ -250,8 +255,9 @@ module _ (rs : List (List ℕ)) (U : UnitLaws store (asked rs)) {origin : List �
   pub flush-live : (p : ℕ) → Live rs origin (Calls.flush p d .now)
   unfolding Calls.flush
   flush-live p =
-      by-test _ 0 1 _ v (λ sized. rw (given-some _ (logOf (v .top) (v .recs)) (refused 0 2 d) _ (known-live rs U d v))
+      by-test _ 0 1 _ v (λ sized. rw (given-some _ (logOf (v .top) (v .recs)) (refused 0 2 d) _ (known-ran U d here))
       (by-test _ 0 12 _ v (λ small. by-test _ 0 13 _ v (λ e. record {
+        records = v .records;
         top = v .top;
         recs = v .recs;
         many = v .many;
@@ -263,8 +269,9 @@ module _ (rs : List (List ℕ)) (U : UnitLaws store (asked rs)) {origin : List �
   pub force-live : Live rs origin (Calls.force d .now)
   unfolding Calls.force
   force-live =
-      by-test _ 0 1 _ v (λ sized. rw (given-some _ (logOf (v .top) (v .recs)) (refused 0 2 d) _ (known-live rs U d v))
+      by-test _ 0 1 _ v (λ sized. rw (given-some _ (logOf (v .top) (v .recs)) (refused 0 2 d) _ (known-ran U d here))
       (record {
+        records = v .records;
         top = v .top;
         recs = v .recs;
         many = length (v .recs);
@@ -289,15 +296,17 @@ module _ (rs : List (List ℕ)) (U : UnitLaws store (asked rs)) {origin : List �
   pub checkpoint-live : (clear : Bool) → Anew (Calls.checkpoint clear d)
   unfolding Calls.checkpoint pick
   checkpoint-live clear =
-      anew-test _ 1 _ refl (λ sized. rw (given-some _ (logOf (v .top) (v .recs)) (refused 0 2 d) _ (known-live rs U d v))
+      anew-test _ 1 _ refl (λ sized. rw (given-some _ (logOf (v .top) (v .recs)) (refused 0 2 d) _ (known-ran U d here))
       (anew-test _ 9 _ refl (λ shut. anew-test _ 14 _ refl (λ equal. anew-test _ 7 _ refl (λ nums.
       let n : Checks (v .top) (v .recs) (checkpointed clear (stateOf (v .top) (v .recs))) =
       record { clear = clear; is = refl; numbered = leb-true _ most4 nums } in
       record {
+        records = settled U d here (not-there (stateOf (v .top) (v .recs) .opened) shut) .fine .1 ∙ v .records;
         top = checkpointed clear (stateOf (v .top) (v .recs));
         recs = [];
         many = 0;
-        reached = Reached.checkpoint (v .reached) (none-left _ (not-there (stateOf (v .top) (v .recs) .opened) shut)) (same-eq (d .work) (d .store) equal) n;
+        reached = Reached.checkpoint (v .reached) (none-left _ (not-there (stateOf (v .top) (v .recs) .opened) shut))
+            (same-eq (d .work) (d .store) equal) (n, refl, refl);
         log = sym (image-bare (checkpointed clear (stateOf (v .top) (v .recs))));
         numbered = record { used = sym (bare-at (checkpointed clear (stateOf (v .top) (v .recs)))); forced = nothing-forced; among = omega arith };
       })))))

@@ -17,6 +17,7 @@ use Rattle.store.specs.Calls as Calls
 use Rattle.replay.specs.Laws.{UnitLaws}
 use Rattle.promise.specs.Parts.{store, asked, Chooses}
 use Rattle.promise.specs.Promise.{History, Demand3, Spared, Steps}
+use Rattle.promise.proofs.Live.{Ran, ran-of}
 use Rattle.promise.proofs.OnUnits.{chosen-unit, unit-laws}
 use Rattle.promise.proofs.Starts.{built-live}
 use Rattle.promise.proofs.Histories.{kept-in, live-in}
@@ -28,20 +29,23 @@ chosen-keeps n s g w t (inl (fill, h, e)) u k =
     compact-keeps w t n (s .unit + 1) fill (s .lk) g (subst (λ (x : ℕ). x ≤ most4) (chosen-unit s w g (inl (fill, h, e))) u) h e k
 chosen-keeps n s g w t (inr e) u k = order-keeps w t n (s .unit + 1) g (subst (λ (x : ℕ). x ≤ most4) (chosen-unit s w g (inr e)) u) e k
 
-pub units : (rs : List (List ℕ)) → UnitLaws store (asked rs)
-units rs = unit-laws chosen-keeps rs
+pub units : UnitLaws store asked
+units = unit-laws chosen-keeps
 
 -- DEMAND 3
 pub demand-3 : Demand3
-demand-3 rs o d forced on h sized = kept-in rs (units rs) (built-live rs) o d forced on h sized
+demand-3 rs o d forced on h sized = kept-in rs units (built-live rs) o d forced on h sized
 
 -- inside a history a begin refuses neither log, page, page change nor tree, and a step is accepted wherever a unit is open
 module _ (rs : List (List ℕ)) (o : List ℕ) (d : Lent) (forced : ℕ) (h : History rs o d forced true) where
+  abbrev here : Ran o d
+  here = ran-of units (live-in rs units (built-live rs) o d forced h)
+
   pub begin-compact-in : (fill : ℕ) → Spared (Calls.beginCompact fill d)
-  begin-compact-in fill = begin-compact-spared rs (units rs) d (live-in rs (units rs) (built-live rs) o d forced h) fill
+  begin-compact-in fill = begin-compact-spared units d here fill
 
   pub begin-order-in : Spared (Calls.beginOrder d)
-  begin-order-in = begin-order-spared rs (units rs) d (live-in rs (units rs) (built-live rs) o d forced h)
+  begin-order-in = begin-order-spared units d here
 
   pub step-in : Steps d
-  step-in = steps rs (units rs) d (live-in rs (units rs) (built-live rs) o d forced h)
+  step-in = steps units d here

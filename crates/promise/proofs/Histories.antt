@@ -55,19 +55,19 @@ waits-few (some o) w =
 few-left : (c : Check) (l : List Rec) → Good (logOf c l) → length (todoOf (stateOf c l .opened)) ≤ 25
 few-left c l g = waits-few (stateOf c l .opened) (sound-atEnd (logOf c l) g .waits)
 
-module _ (rs : List (List ℕ)) (U : UnitLaws store (asked rs)) where
+module _ (rs : List (List ℕ)) (U : UnitLaws store asked) where
   -- ---- calls
 
   does-live : {origin : List ℕ} (k : Call) (d : Lent) → Live rs origin d → Live rs (since k origin d) (does k d .now)
   unfolding does since
-  does-live (toBeginCompact fill) d v = begin-compact-live rs U d v fill
-  does-live toBeginOrder d v = begin-order-live rs U d v
-  does-live toStep d v = step-live rs U d v
-  does-live (toFlush p) d v = flush-live rs U d v p
-  does-live toForce d v = force-live rs U d v
-  does-live (toCheckpoint clear) d v = checkpoint-live rs U d v clear
-  does-live (toFind key) d v = find-live rs U d v key
-  does-live (toList low high) d v = list-live rs U d v low high
+  does-live (toBeginCompact fill) d v = begin-compact-live U d v fill
+  does-live toBeginOrder d v = begin-order-live U d v
+  does-live toStep d v = step-live U d v
+  does-live (toFlush p) d v = flush-live U d v p
+  does-live toForce d v = force-live U d v
+  does-live (toCheckpoint clear) d v = checkpoint-live U d v clear
+  does-live (toFind key) d v = find-live U d v key
+  does-live (toList low high) d v = list-live U d v low high
 
   -- ---- cuts
 
@@ -79,18 +79,19 @@ module _ (rs : List (List ℕ)) (U : UnitLaws store (asked rs)) where
   cut-lost origin d d′ forced v x =
       let c : Check = v .top in
       let l : List Rec = v .recs in
-      let g : Good (logOf c l) = stored-of rs U (v .reached) .good in
+      let g : Good (logOf c l) = stored-of U (v .reached) .good in
       let b : x .before ≡ logOf c l =
       Option·some-injective (x .before) (logOf c l) (sym (x .was) ∙ ap readLog (v .log) ∙ read-image c l g) in
       let e : Ends (x .kept) 24 (c .number) l (x .number) = lastForced-facts (x .kept) (logOf c l) (x .number) (rw b at (x .whole)) in
       let m : ℕ = e .count in
       let fewer : v .many ≤ m = no-earlier (v .many) m l (v .among) (rw (← (v .held), ← (e .place)) (x .enough)) in
       record {
+        records = v .records;
         work = none;
         top = c;
         recs = take m l;
         many = v .many;
-        reached = subst (λ (s : List ℕ). Reached store (asked rs) origin none s c (take m l) (v .many)) (sym (x .store))
+        reached = subst (λ (s : List ℕ). Reached store asked origin none s c (take m l) (v .many)) (sym (x .store))
             (Reached.cut m (v .reached) fewer (e .among));
         log = x .log ∙ ap₂ (λ (k : ℕ) (b : List ℕ). take k b ++ zeroes (logLength - k)) (e .place) (v .log) ∙ take-image c l m g;
         held = v .held ∙ ap (λ (a : List Rec). 24 + sizes a) (sym (take-take (v .many) m l fewer));
@@ -103,11 +104,12 @@ module _ (rs : List (List ℕ)) (U : UnitLaws store (asked rs)) where
   recovery-live origin d forced v sized =
       let c : Check = v .top in
       let l : List Rec = v .recs in
-      let x : Recovers store (asked rs) origin (d .store) c l = theorem store (asked rs) (page-laws rs) U (v .reached) in
+      let x : Recovers store asked origin (d .store) c l = theorem store asked page-laws U (v .reached) in
       let e : Calls.recover d ≡ recoveredAs d c l (x .work) (x .rest) =
-      recover-is rs d origin c l sized (v .log) (stored-of rs U (v .reached) .good) x in
+      recover-is d origin c l sized (v .log) (stored-of U (v .reached) .good) x in
       subst (λ (y : Left). Live rs origin (y .now)) (sym e)
       (record {
+        records = v .records;
         top = c;
         recs = l ++ x .rest;
         many = length l;
@@ -126,15 +128,15 @@ module _ (rs : List (List ℕ)) (U : UnitLaws store (asked rs)) where
   recovery-kept origin d forced v sized =
       let c : Check = v .top in
       let l : List Rec = v .recs in
-      let g : Good (logOf c l) = stored-of rs U (v .reached) .good in
-      let x : Recovers store (asked rs) origin (d .store) c l = theorem store (asked rs) (page-laws rs) U (v .reached) in
-      let e : Calls.recover d ≡ recoveredAs d c l (x .work) (x .rest) = recover-is rs d origin c l sized (v .log) g x in
+      let g : Good (logOf c l) = stored-of U (v .reached) .good in
+      let x : Recovers store asked origin (d .store) c l = theorem store asked page-laws U (v .reached) in
+      let e : Calls.recover d ≡ recoveredAs d c l (x .work) (x .rest) = recover-is d origin c l sized (v .log) g x in
       let more : Good (logOf c (l ++ x .rest)) = x .settled .shape .0 in
       record {
         accepted = ap (λ (y : Left). y .reply) e;
         form = ap (λ (y : Left). allFormed 0 (pages (y .now .work))) e ∙ formed-pages (x .work) (x .settled .formed .form);
         tree = ap (λ (y : Left). Rattle.tree.specs.Tree.wellFormed (pages (y .now .work))) e ∙ x .settled .fine .0;
-        records = ap (λ (y : Left). Rattle.tree.specs.Tree.allRecords (pages (y .now .work))) e ∙ x .settled .fine .1;
+        records = ap (λ (y : Left). Rattle.tree.specs.Tree.allRecords (pages (y .now .work))) e ∙ x .settled .fine .1 ∙ v .records;
         found = logOf c l;
         was = ap readLog (v .log) ∙ read-image c l g;
         left = logOf c (l ++ x .rest);
@@ -145,7 +147,7 @@ module _ (rs : List (List ℕ)) (U : UnitLaws store (asked rs)) where
         count = ap (λ (y : Left). y .values) e;
         few = omega (arith, x .appended, few-left c l g);
         run = ran origin c (x .work) (l ++ x .rest);
-        uncut = run-calls rs U origin c (origin-settled store (asked rs) (page-laws rs) U (v .reached)) (x .uncut);
+        uncut = run-calls U origin c (origin-settled store asked page-laws U (v .reached)) (x .uncut);
         same-work = sym (ap (λ (y : Left). y .now .work) e);
         same-log = sym (ap (λ (y : Left). y .now .log) e);
         rests = λ key. find-rests key (Calls.recover d .now);

@@ -1,5 +1,6 @@
 -- A state with work pages that a history leads to, as bytes, and what every call finds in it. `Live` is such a state, `Lost` one whose
--- work pages may be gone. Assumes nothing but the unit laws, which are handed in.
+-- work pages may be gone, `Ran` what a call needs of a live state that does not read the store. Assumes nothing but the unit laws, which are
+-- handed in.
 use Prim.Native.Nat.{ℕ, _+_, _-_, _≤_}
 use native.Mathlib.Omega.{arith}
 use mathlib.Core.Path.{_≡_, sym, ap, _∙_}
@@ -10,16 +11,18 @@ use lib.ListN.{length, take, length-append}
 use lib.Seq.{take-append-le}
 use borrow.Author.Tests.{eq-eqb}
 use Rattle.field.specs.Bytes.{put}
-use Rattle.field.proofs.Test.{both-intro, all-intro, all-nil}
+use Rattle.field.proofs.Test.{both-intro}
+use Rattle.page.specs.Pages.{pages}
 use Rattle.log.specs.Record.{Check, Rec, size, encode, encodeCheck, encodeAll}
 use Rattle.log.specs.Log.{encodeLog}
 use Rattle.log.proofs.State.{sizes, at-atEnd}
 use Rattle.log.proofs.Record.{length-encodeCheck}
 use Rattle.log.specs.Valid.{Fits}
-use Rattle.store.specs.Calls.{Lent, lent, known, twoSized, threeSized, pagesSized, logSized, newLog}
-use Rattle.replay.specs.Store.{Formed, Reached}
+use Rattle.tree.specs.Tree.{allRecords}
+use Rattle.store.specs.Calls.{Lent, lent, known, twoSized, pagesSized, logSized, newLog}
+use Rattle.replay.specs.Store.{Formed, Settled, Uncut, Reached}
 use Rattle.replay.specs.Laws.{UnitLaws}
-use Rattle.replay.proofs.Theorem.{theorem, work-formed}
+use Rattle.replay.proofs.Theorem.{theorem, origin-settled, work-uncut, ran-shape, ran-formed}
 use Rattle.promise.specs.Parts.{logOf, stateOf, store, asked}
 use Rattle.promise.proofs.OnPages.{page-laws}
 use Rattle.promise.proofs.Standing.{last-fits}
@@ -27,27 +30,30 @@ use Rattle.promise.proofs.Image.{image, Stored, Numbered, length-image,
 
 -- the work pages may be gone: the store's pages, the log's bytes, and how many of its records are forced
 pub record Lost (rs : List (List ℕ)) (origin : List ℕ) (d : Lent) (forced : ℕ) : Type 0 where
+  pub records : allRecords (pages origin) ≡ rs  -- those of the start
   pub work : Option (List ℕ)
   pub top : Check
   pub recs : List Rec
   pub many : ℕ
-  pub reached : Reached store (asked rs) origin work (d .store) top recs many
+  pub reached : Reached store asked origin work (d .store) top recs many
   pub log : d .log ≡ image top recs
   pub held : forced ≡ 24 + sizes (take many recs)
   pub among : many ≤ length recs
 
 -- the work pages are there, and the numbers say what is so
 pub record Live (rs : List (List ℕ)) (origin : List ℕ) (d : Lent) : Type 0 where
+  pub records : allRecords (pages origin) ≡ rs
   pub top : Check
   pub recs : List Rec
   pub many : ℕ
-  pub reached : Reached store (asked rs) origin (some (d .work)) (d .store) top recs many
+  pub reached : Reached store asked origin (some (d .work)) (d .store) top recs many
   pub log : d .log ≡ image top recs
   pub numbered : Numbered d top recs many
 
 pub live-lost : {rs : List (List ℕ)} {origin : List ℕ} {d : Lent} → Live rs origin d → Lost rs origin d (d .forced)
 live-lost {d = d} v =
     record {
+      records = v .records;
       work = some (d .work);
       top = v .top;
       recs = v .recs;
@@ -63,6 +69,7 @@ pub live-room : {rs : List (List ℕ)} {origin : List ℕ} {d : Lent} (b : List 
     → Live rs origin (lent (d .used) (d .forced) (d .work) (d .store) (d .log) b)
 live-room b v =
     record {
+      records = v .records;
       top = v .top;
       recs = v .recs;
       many = v .many;
@@ -76,6 +83,7 @@ pub lost-room : {rs : List (List ℕ)} {origin : List ℕ} {d : Lent} {forced : 
     → Lost rs origin (lent (d .used) (d .forced) w (d .store) (d .log) b) forced
 lost-room w b v =
     record {
+      records = v .records;
       work = v .work;
       top = v .top;
       recs = v .recs;
@@ -93,60 +101,71 @@ image-bare c =
     let a : stateOf c [] .at ≡ 24 = at-atEnd (logOf c []) in
     rw (append-nil (encodeCheck c), a, length-encodeCheck c)
 
-module _ (rs : List (List ℕ)) (U : UnitLaws store (asked rs)) where
+-- work pages and log of an uncut run from the pages origin, whatever the store holds
+pub record Ran (origin : List ℕ) (d : Lent) : Type 0 where
+  pub top : Check
+  pub recs : List Rec
+  pub many : ℕ
+  pub settled : Settled store asked origin origin top []
+  pub uncut : Uncut store asked origin top (d .work) recs
+  pub log : d .log ≡ image top recs
+  pub numbered : Numbered d top recs many
+
+module _ (U : UnitLaws store asked) where
   -- the log of a state is in form, and its bytes hold it
-  pub stored-of : {o s : List ℕ} {x : Option (List ℕ)} {c : Check} {l : List Rec} {m : ℕ} → Reached store (asked rs) o x s c l m → Stored c l
-  stored-of g = let v = theorem store (asked rs) (page-laws rs) U g in record { good = v .log-form .0; fits = v .log-form .1 }
+  pub stored-of : {o s : List ℕ} {x : Option (List ℕ)} {c : Check} {l : List Rec} {m : ℕ} → Reached store asked o x s c l m → Stored c l
+  stored-of g = let v = theorem store asked page-laws U g in record { good = v .log-form .0; fits = v .log-form .1 }
 
-  module _ {origin : List ℕ} (d : Lent) (v : Live rs origin d) where
+  -- a live state's work pages and log are those of an uncut run
+  abbrev pub ran-of : {rs : List (List ℕ)} {origin : List ℕ} {d : Lent} → Live rs origin d → Ran origin d
+  ran-of v =
+      record {
+        top = v .top;
+        recs = v .recs;
+        many = v .many;
+        settled = origin-settled store asked page-laws U (v .reached);
+        uncut = work-uncut store asked page-laws U (v .reached);
+        log = v .log;
+        numbered = v .numbered;
+      }
+
+  module _ {origin : List ℕ} (d : Lent) (v : Ran origin d) where
     pub stored : Stored (v .top) (v .recs)
-    stored = stored-of (v .reached)
+    stored = let s = ran-shape store asked page-laws U (v .settled) (v .uncut) in record { good = s .0; fits = s .1 }
 
-    pub work-pages : Formed store (asked rs) (d .work)
-    work-pages = work-formed store (asked rs) (page-laws rs) U (v .reached)
-
-    work-sized : pagesSized (d .work) ≡ true
-    unfolding pagesSized
-    work-sized = eq-eqb (length (d .work)) 16384 (work-pages .sized .0)
-
-    store-sized : pagesSized (d .store) ≡ true
-    unfolding pagesSized
-    store-sized = eq-eqb (length (d .store)) 16384 (theorem store (asked rs) (page-laws rs) U (v .reached) .page-form .sized .0)
-
-    pub log-sized : logSized (d .log) ≡ true
-    unfolding logSized
-    log-sized = eq-eqb (length (d .log)) 8192 (ap length (v .log) ∙ length-image (v .top) (v .recs) stored)
+    pub work-pages : Formed store asked (d .work)
+    work-pages = ran-formed store asked page-laws U (v .settled) (v .uncut)
 
     pub two-sized : twoSized d ≡ true
-    unfolding twoSized
-    two-sized = both-intro _ _ work-sized log-sized
-
-    pub three-sized : threeSized d ≡ true
-    unfolding threeSized
-    three-sized = all-intro _ _ work-sized (all-intro _ _ store-sized (all-intro _ _ log-sized all-nil))
+    unfolding twoSized pagesSized logSized
+    two-sized =
+        both-intro _ _ (eq-eqb (length (d .work)) 16384 (work-pages .sized .0))
+        (eq-eqb (length (d .log)) 8192 (ap length (v .log) ∙ length-image (v .top) (v .recs) stored))
 
     -- test 2 finds the log
-    pub known-live : known d ≡ some (logOf (v .top) (v .recs))
-    known-live = known-image d (v .top) (v .recs) (v .many) (v .log) (stored .good) (v .numbered)
+    pub known-ran : known d ≡ some (logOf (v .top) (v .recs))
+    known-ran = known-image d (v .top) (v .recs) (v .many) (v .log) (stored .good) (v .numbered)
 
-    -- one record more
-    pub live-grown : (r : Rec) (w′ : List ℕ) → Reached store (asked rs) origin (some w′) (d .store) (v .top) (v .recs ++ (r ∷ [])) (v .many)
-        → Live rs origin
-        (lent (stateOf (v .top) (v .recs) .at + size r) (d .forced) w′ (d .store)
-        (put (stateOf (v .top) (v .recs) .at) (encode (stateOf (v .top) (v .recs) .number + 1) r) (d .log)) (d .bytes))
-    live-grown r w′ g =
-        let c : Check = v .top in
-        let l : List Rec = v .recs in
-        let f : Fits (stateOf c l) r = last-fits c l r (stored-of g .good) in
-        record {
-          top = c;
-          recs = l ++ (r ∷ []);
-          many = v .many;
-          reached = g;
-          log = ap (put (stateOf c l .at) (encode (stateOf c l .number + 1) r)) (v .log) ∙ put-image c l r (stored .good) f;
-          numbered = record {
-            used = sym (at-grown c l r);
-            forced = v .numbered .forced ∙ ap (λ (a : List Rec). 24 + sizes a) (sym (take-append-le (v .many) l (r ∷ []) (v .numbered .among)));
-            among = rw (length-append l (r ∷ [])) (omega (arith, v .numbered .among));
-          };
-        }
+  -- one record more
+  pub live-grown : {rs : List (List ℕ)} {origin : List ℕ} (d : Lent) (v : Live rs origin d) (r : Rec) (w′ : List ℕ)
+      → Reached store asked origin (some w′) (d .store) (v .top) (v .recs ++ (r ∷ [])) (v .many)
+      → Live rs origin
+      (lent (stateOf (v .top) (v .recs) .at + size r) (d .forced) w′ (d .store)
+      (put (stateOf (v .top) (v .recs) .at) (encode (stateOf (v .top) (v .recs) .number + 1) r) (d .log)) (d .bytes))
+  live-grown d v r w′ g =
+      let c : Check = v .top in
+      let l : List Rec = v .recs in
+      let f : Fits (stateOf c l) r = last-fits c l r (stored-of g .good) in
+      record {
+        records = v .records;
+        top = c;
+        recs = l ++ (r ∷ []);
+        many = v .many;
+        reached = g;
+        log = ap (put (stateOf c l .at) (encode (stateOf c l .number + 1) r)) (v .log) ∙ put-image c l r (stored-of (v .reached) .good) f;
+        numbered = record {
+          used = sym (at-grown c l r);
+          forced = v .numbered .forced ∙ ap (λ (a : List Rec). 24 + sizes a) (sym (take-append-le (v .many) l (r ∷ []) (v .numbered .among)));
+          among = rw (length-append l (r ∷ [])) (omega (arith, v .numbered .among));
+        };
+      }

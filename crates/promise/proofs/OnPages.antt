@@ -19,16 +19,15 @@ use Rattle.page.proofs.Pages.{bytes-page, bytes-putPage, length-page, length-pu
 use Rattle.log.specs.Record.{Rec}
 use Rattle.unit.specs.Next.{target, change, changedAt, apply, repeat}
 use Rattle.unit.proofs.Changed.{Leaves, change-leaves, change-bytes, target-page}
-use Rattle.replay.specs.Store.{Meaning, again}
 use Rattle.unit.proofs.Kept as Unit
-use Rattle.replay.specs.Laws.{Stands, PageLaws}
+use Rattle.replay.specs.Store.{again}
+use Rattle.replay.specs.Laws.{Stands, Touches, PageLaws}
 use Rattle.promise.specs.Parts.{changeAt, store, asked}
 use Rattle.promise.proofs.Standing.{last-stands}
 
-module _ (rs : List (List ℕ)) where
-  -- a record that stands in a log in form, with the number that it has there
-  standing : (n : ℕ) (r : Rec) → Stands store (asked rs) n r → Unit.Stands n r
-  standing n r s = rw (s .numbered) (last-stands (s .top) (s .before) r (s .shape .0))
+-- a record that stands in a log in form, with the number that it has there
+standing : (n : ℕ) (r : Rec) → Stands store asked n r → Unit.Stands n r
+standing n r s = rw (s .numbered) (last-stands (s .top) (s .before) r (s .shape .0))
 
 -- ---- one page of all, for any function of it
 
@@ -48,14 +47,13 @@ atPage-other : (f : List ℕ → Option (List ℕ)) (p q : ℕ) (pg : List ℕ) 
 unfolding atPage given
 atPage-other f p q pg ne = pick-false (eqb p q) (f pg) (some pg) (ne-eqb p q ne)
 
--- it is page p itself that f changed, or the page stays
-atPage-cases : (t : Option ℕ) (f : List ℕ → Option (List ℕ)) (p : ℕ) (pg pg′ : List ℕ) → atPage t f p pg ≡ some pg′
-    → (pg′ ≡ pg) ⊎ ((t ≡ some p) × (f pg ≡ some pg′))
-atPage-cases none f p pg pg′ e = inl (sym (Option·some-injective pg pg′ (sym (atPage-none f p pg) ∙ e)))
-atPage-cases (some q) f p pg pg′ e =
+-- page p is the one that f changes, or whatever stands there stays
+atPage-own : (t : Option ℕ) (f : List ℕ → Option (List ℕ)) (p : ℕ) → (t ≡ some p) ⊎ ((pg : List ℕ) → atPage t f p pg ≡ some pg)
+atPage-own none f p = inr (λ pg. atPage-none f p pg)
+atPage-own (some q) f p =
     elim (ℕ-discrete p q) [
-      | yes i ↦ inr (ap some (sym i), sym (atPage-same f p pg) ∙ ap (λ (k : ℕ). atPage (some k) f p pg) i ∙ e)
-      | no ne ↦ inl (sym (Option·some-injective pg pg′ (sym (atPage-other f p q pg ne) ∙ e)))
+      | yes i ↦ inl (ap some (sym i))
+      | no ne ↦ inr (λ pg. atPage-other f p q pg ne)
     ]
 
 -- pages of the right length, of bytes
@@ -144,56 +142,62 @@ stampedOr-cases n r pg pg′ e = go (leb n (number pg)) e
 
 -- ---- the laws
 
-module _ (rs : List (List ℕ)) where
-  abbrev M : Meaning store
-  M = asked rs
+below : (n : ℕ) → n ≤ most4 → n < 4294967296
+below n h = omega arith
 
-  below : (n : ℕ) → n ≤ most4 → n < 4294967296
-  below n h = omega arith
+-- what a record that stands does to its page
+leaves : (n : ℕ) (r : Rec) (q : ℕ) (pg pg′ : List ℕ) → Stands store asked n r → target r ≡ some q → change n r pg ≡ some pg′ → Leaves n q pg′
+leaves n r q pg pg′ s t e = let k = standing n r s in change-leaves n q r pg pg′ (k .keeps) (k .rows) (below n (k .small)) t e
 
-  -- what a record that stands does to its page
-  leaves : (n : ℕ) (r : Rec) (q : ℕ) (pg pg′ : List ℕ) → Stands store M n r → target r ≡ some q → change n r pg ≡ some pg′ → Leaves n q pg′
-  leaves n r q pg pg′ s t e = let k = standing rs n r s in change-leaves n q r pg pg′ (k .keeps) (k .rows) (below n (k .small)) t e
+on-page : (n : ℕ) (r : Rec) (q : ℕ) → Stands store asked n r → target r ≡ some q → q < 64
+on-page n r q s t = target-page q r (standing n r s .keeps) t
 
-  on-page : (n : ℕ) (r : Rec) (q : ℕ) → Stands store M n r → target r ≡ some q → q < 64
-  on-page n r q s t = target-page q r (standing rs n r s .keeps) t
+whole-page : (n : ℕ) (r : Rec) (v : List ℕ) → Stands store asked n r → Sized v → (q : ℕ) (pg : List ℕ) → target r ≡ some q → change n r (page q v) ≡ some pg
+    → (length pg ≡ 256) × Bytes pg
+whole-page n r v s sv q pg t e =
+    (leaves n r q (page q v) pg s t e .whole, change-bytes n r (page q v) pg (standing n r s .rows) (bytes-page q v (sv .1)) e)
 
-  whole-page : (n : ℕ) (r : Rec) (v : List ℕ) → Stands store M n r → Sized v → (q : ℕ) (pg : List ℕ) → target r ≡ some q → change n r (page q v) ≡ some pg
-      → (length pg ≡ 256) × Bytes pg
-  whole-page n r v s sv q pg t e =
-      (leaves n r q (page q v) pg s t e .whole, change-bytes n r (page q v) pg (standing rs n r s .rows) (bytes-page q v (sv .1)) e)
+again-page : (n : ℕ) (r : Rec) (v : List ℕ) → Stands store asked n r → Sized v → (q : ℕ) (pg : List ℕ) → target r ≡ some q → stampedOr n r (page q v) ≡ some pg
+    → (length pg ≡ 256) × Bytes pg
+again-page n r v s sv q pg t e =
+    ⊎-elim
+    (λ (i : pg ≡ page q v). rw i (length-page q v (sv .0) (on-page n r q s t), bytes-page q v (sv .1)))
+    (λ (i : change n r (page q v) ≡ some pg). whole-page n r v s sv q pg t i)
+    (stampedOr-cases n r (page q v) pg e)
 
-  again-page : (n : ℕ) (r : Rec) (v : List ℕ) → Stands store M n r → Sized v → (q : ℕ) (pg : List ℕ) → target r ≡ some q → stampedOr n r (page q v) ≡ some pg
-      → (length pg ≡ 256) × Bytes pg
-  again-page n r v s sv q pg t e =
-      ⊎-elim
-      (λ (i : pg ≡ page q v). rw i (length-page q v (sv .0) (on-page n r q s t), bytes-page q v (sv .1)))
-      (λ (i : change n r (page q v) ≡ some pg). whole-page n r v s sv q pg t i)
-      (stampedOr-cases n r (page q v) pg e)
+-- its own page it stamps and keeps in form
+touches : (n : ℕ) (r : Rec) (p : ℕ) → Stands store asked n r → target r ≡ some p → Touches store asked p n r
+touches n r p s t =
+    record {
+      stamped = λ pg pg′ f k e. leaves n r p pg pg′ s t (own pg pg′ e) .stamp;
+      formed = λ pg pg′ f k e. leaves n r p pg pg′ s t (own pg pg′ e) .form;
+    }
+  where
+    own : (pg pg′ : List ℕ) → changeAt n r p pg ≡ some pg′ → change n r pg ≡ some pg′
+    own pg pg′ e =
+        sym (atPage-same (change n r) p pg) ∙ ap (λ (u : Option ℕ). atPage u (change n r) p pg) (sym t) ∙ sym (change-at n r p pg) ∙ e
 
-  pub page-laws : PageLaws store M
-  page-laws =
-      record {
-        same-pages = λ v w sv sw f. pages-ext v w (sv .0) (sw .0) f;
-        copy-sized = λ v w p sv sw h. replaced-sized p h w sw (page p v) (length-page p v (sv .0) h) (bytes-page p v (sv .1));
-        copy-same = λ v w p sv sw h. page-putPage-same p w (sw .0) h (page p v) (length-page p v (sv .0) h);
-        copy-other = λ v w p q sv sw h k ne. page-putPage-other p w (sw .0) h (page p v) (length-page p v (sv .0) h) q k ne;
-        stamped = λ n r p pg pg′ s h form e.
-            ⊎-elim (λ i. inl i) (λ (i : (target r ≡ some p) × (change n r pg ≡ some pg′)). inr (leaves n r p pg pg′ s (i .0) (i .1) .stamp))
-            (atPage-cases (target r) (change n r) p pg pg′ (sym (change-at n r p pg) ∙ e));
-        formed = λ n r p pg pg′ s h form e.
-            ⊎-elim (λ (i : pg′ ≡ pg). rw i form)
-            (λ (i : (target r ≡ some p) × (change n r pg ≡ some pg′)). leaves n r p pg pg′ s (i .0) (i .1) .form)
-            (atPage-cases (target r) (change n r) p pg pg′ (sym (change-at n r p pg) ∙ e));
-        applied = λ n r v w s fv e.
-            let x = changed-pages (target r) (change n r) v w (fv .sized) (λ q t. on-page n r q s t) (whole-page n r v s (fv .sized)) (applied-is n r v w e) in
-            (x .0, λ p h. change-at n r p (page p v) ∙ x .1 p h);
-        repeated = λ n r v w s fv e.
-            let x = changed-pages (target r) (stampedOr n r) v w (fv .sized) (λ q t. on-page n r q s t) (again-page n r v s (fv .sized))
-            (sym (repeat-at n r v) ∙ e) in
-            (x .0, λ p h. again-at n r p (page p v) ∙ x .1 p h);
-        repeat-accepted = λ n r v s fv g.
-            let x = changes-pages (target r) (stampedOr n r) v (λ q t. on-page n r q s t)
-            (λ p h. (g p h .0, sym (again-at n r p (page p v)) ∙ g p h .1)) in
-            (x .0, repeat-at n r v ∙ x .1);
-      }
+pub page-laws : PageLaws store asked
+page-laws =
+    record {
+      same-pages = λ v w sv sw f. pages-ext v w (sv .0) (sw .0) f;
+      copy-sized = λ v w p sv sw h. replaced-sized p h w sw (page p v) (length-page p v (sv .0) h) (bytes-page p v (sv .1));
+      copy-same = λ v w p sv sw h. page-putPage-same p w (sw .0) h (page p v) (length-page p v (sv .0) h);
+      copy-other = λ v w p q sv sw h k ne. page-putPage-other p w (sw .0) h (page p v) (length-page p v (sv .0) h) q k ne;
+      concerns = λ n r p s h.
+          ⊎-elim
+          (λ (t : target r ≡ some p). inl (touches n r p s t))
+          (λ (t : (pg : List ℕ) → atPage (target r) (change n r) p pg ≡ some pg). inr (λ pg f. change-at n r p pg ∙ t pg))
+          (atPage-own (target r) (change n r) p);
+      applied = λ n r v w s fv e.
+          let x = changed-pages (target r) (change n r) v w (fv .sized) (λ q t. on-page n r q s t) (whole-page n r v s (fv .sized)) (applied-is n r v w e) in
+          (x .0, λ p h. change-at n r p (page p v) ∙ x .1 p h);
+      repeated = λ n r v w s fv e.
+          let x = changed-pages (target r) (stampedOr n r) v w (fv .sized) (λ q t. on-page n r q s t) (again-page n r v s (fv .sized))
+          (sym (repeat-at n r v) ∙ e) in
+          (x .0, λ p h. again-at n r p (page p v) ∙ x .1 p h);
+      repeat-accepted = λ n r v s fv g.
+          let x = changes-pages (target r) (stampedOr n r) v (λ q t. on-page n r q s t)
+          (λ p h. (g p h .0, sym (again-at n r p (page p v)) ∙ g p h .1)) in
+          (x .0, repeat-at n r v ∙ x .1);
+    }

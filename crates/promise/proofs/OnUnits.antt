@@ -88,29 +88,28 @@ running-after c l did x xs r g f v =
     opened-after : (s : State) (r : Rec) → after s r .opened ≡ openedBy r (s .opened)
     opened-after s r = unfold after in refl
 
-module _ (rs : List (List ℕ)) where
-  -- steps that can be carried out can be finished
-  carried-able : {n : ℕ} {did : List Rec} {todo : List Step} {w w′ : List ℕ} {recs : List Rec} (c : Check) (l : List Rec)
-      → Carried n did todo w w′ recs → n ≡ c .number + length l + 1 → Stored c l → Running (stateOf c l) did todo → Bytes w
-      → stateOf c l .at + room w todo ≤ logLength → c .number + length l + length todo ≤ most4
-      → (wellFormed (pages w′) ≡ true) × (allRecords (pages w′) ≡ rs) → Able store (asked rs) c w l
-  carried-able c l (done {w = w}) e h v b f k fine = closed (h .good, h .fits) (ap length (v .steps)) fine
-  carried-able {w′ = w′} c l (step {x = x} {xs = xs} {w = w} {v = u} {r = r} form next applies bytes same formed rest) e h v b f k fine =
-      let m : stateOf c l .number ≡ c .number + length l = number-atEnd (logOf c l) in
-      let d = v .past x xs refl in
-      let n : nextOf (x ∷ xs) (stateOf c l) w ≡ some r = next-of x xs (stateOf c l) _ w r d next f (omega arith) in
-      let o : Opened (stateOf c l) x xs = opened-at (stateOf c l) x xs (v .steps) in
-      let fits : Fits (stateOf c l) r = next-fits (stateOf c l) x xs w r b o (next-facts x xs (stateOf c l) w r n) in
-      let st : Stands (stateOf c l .number + 1) r = fits-stands (sound-atEnd (logOf c l) (h .good)) (end-keeps (logOf c l) (h .good)) fits in
-      let q : stepSize w x + room w xs ≡ room w (x ∷ xs) = unfold room in refl in
-      let h′ : Stored c (l ++ (r ∷ [])) = stored-grown c l r h fits (omega arith) in
-      let v′ : Running (stateOf c (l ++ (r ∷ []))) (r ∷ _) xs = running-after c l _ x xs r (h .good) fits v in
-      let a : length (l ++ (r ∷ [])) ≡ length l + 1 = length-append l (r ∷ []) in
-      more (h .good, h .fits) (ap length (v .steps)) (ap length (v′ .steps)) (next-here n) (subst (λ (i : ℕ). apply i r w ≡ some u) e applies)
-      (carried-able c (l ++ (r ∷ [])) rest (omega arith) h′ v′ (apply-bytes _ r w u (st .rows) b applies) (omega (arith, at-grown c l r)) (omega arith) fine)
-    where
-      next-here : nextOf (x ∷ xs) (stateOf c l) w ≡ some r → nextOf (todoOf (stateOf c l .opened)) (stateOf c l) w ≡ some r
-      next-here n = subst (λ (ts : List Step). nextOf ts (stateOf c l) w ≡ some r) (sym (v .steps)) n
+-- steps that can be carried out can be finished
+carried-able : {n : ℕ} {did : List Rec} {todo : List Step} {w w′ : List ℕ} {recs : List Rec} (origin : List ℕ) (c : Check) (l : List Rec)
+    → Carried n did todo w w′ recs → n ≡ c .number + length l + 1 → Stored c l → Running (stateOf c l) did todo → Bytes w
+    → stateOf c l .at + room w todo ≤ logLength → c .number + length l + length todo ≤ most4
+    → (wellFormed (pages w′) ≡ true) × (allRecords (pages w′) ≡ allRecords (pages origin)) → Able store asked origin c w l
+carried-able origin c l (done {w = w}) e h v b f k fine = closed (h .good, h .fits) (ap length (v .steps)) fine
+carried-able {w′ = w′} origin c l (step {x = x} {xs = xs} {w = w} {v = u} {r = r} form next applies bytes same formed rest) e h v b f k fine =
+    let m : stateOf c l .number ≡ c .number + length l = number-atEnd (logOf c l) in
+    let d = v .past x xs refl in
+    let n : nextOf (x ∷ xs) (stateOf c l) w ≡ some r = next-of x xs (stateOf c l) _ w r d next f (omega arith) in
+    let o : Opened (stateOf c l) x xs = opened-at (stateOf c l) x xs (v .steps) in
+    let fits : Fits (stateOf c l) r = next-fits (stateOf c l) x xs w r b o (next-facts x xs (stateOf c l) w r n) in
+    let st : Stands (stateOf c l .number + 1) r = fits-stands (sound-atEnd (logOf c l) (h .good)) (end-keeps (logOf c l) (h .good)) fits in
+    let q : stepSize w x + room w xs ≡ room w (x ∷ xs) = unfold room in refl in
+    let h′ : Stored c (l ++ (r ∷ [])) = stored-grown c l r h fits (omega arith) in
+    let v′ : Running (stateOf c (l ++ (r ∷ []))) (r ∷ _) xs = running-after c l _ x xs r (h .good) fits v in
+    let a : length (l ++ (r ∷ [])) ≡ length l + 1 = length-append l (r ∷ []) in
+    more (h .good, h .fits) (ap length (v .steps)) (ap length (v′ .steps)) (next-here n) (subst (λ (i : ℕ). apply i r w ≡ some u) e applies)
+    (carried-able origin c (l ++ (r ∷ [])) rest (omega arith) h′ v′ (apply-bytes _ r w u (st .rows) b applies) (omega (arith, at-grown c l r)) (omega arith) fine)
+  where
+    next-here : nextOf (x ∷ xs) (stateOf c l) w ≡ some r → nextOf (todoOf (stateOf c l .opened)) (stateOf c l) w ≡ some r
+    next-here n = subst (λ (ts : List Step). nextOf ts (stateOf c l) w ≡ some r) (sym (v .steps)) n
 
 -- ---- a chosen unit has the number that it was chosen for
 
@@ -181,9 +180,9 @@ lk-kept true lk k h e = absurd (none-some e)
     none-some q = let z : _≡_ {A = ℕ} 0 1 = cc in omega arith
 lk-kept false lk k h e = h k e
 
-module _ (K : (n : ℕ) (s : State) (g : Begin) (w : List ℕ) → Tidy w → Chooses s w g → g .unit ≤ most4 → n + length (plan g) ≤ 4294967296 → Keeps n g w) (rs : List (List ℕ)) where
-  tidy-of : (w : List ℕ) (c : Check) (l : List Rec) → Settled store (asked rs) w c l → Tidy w
-  tidy-of w c l s =
+module _ (K : (n : ℕ) (s : State) (g : Begin) (w : List ℕ) → Tidy w → Chooses s w g → g .unit ≤ most4 → n + length (plan g) ≤ 4294967296 → Keeps n g w) where
+  tidy-of : (origin w : List ℕ) (c : Check) (l : List Rec) → Settled store asked origin w c l → Tidy w
+  tidy-of origin w c l s =
       record {
         whole = s .formed .sized .0;
         bytes = s .formed .sized .1;
@@ -191,40 +190,45 @@ module _ (K : (n : ℕ) (s : State) (g : Begin) (w : List ℕ) → Tidy w → Ch
         tree = s .fine .0;
       }
 
-  begun-able : (c : Check) (w : List ℕ) (l : List Rec) (g : Begin) → Settled store (asked rs) w c l → Chooses (stateOf c l) w g
+  begun-able : (origin : List ℕ) (c : Check) (w : List ℕ) (l : List Rec) (g : Begin) → Settled store asked origin w c l → Chooses (stateOf c l) w g
       → stateOf c l .at + (size (LB g) + room w (plan g)) ≤ logLength → stateOf c l .number + (1 + length (plan g)) ≤ most4 → g .unit ≤ most4
-      → Able store (asked rs) c w (l ++ (LB g ∷ []))
-  begun-able c w l g s ch f n u =
+      → Able store asked origin c w (l ++ (LB g ∷ []))
+  begun-able origin c w l g s ch f n u =
       let m : stateOf c l .number ≡ c .number + length l = number-atEnd (logOf c l) in
       let k : Keeps (c .number + length (l ++ (LB g ∷ [])) + 1) g w =
-      K (c .number + length (l ++ (LB g ∷ [])) + 1) (stateOf c l) g w (tidy-of w c l s) ch u (omega (arith, length-append l (LB g ∷ []))) in
+      K (c .number + length (l ++ (LB g ∷ [])) + 1) (stateOf c l) g w (tidy-of origin w c l s) ch u (omega (arith, length-append l (LB g ∷ []))) in
       let h : Stored c l = record { good = s .shape .0; fits = s .shape .1 } in
       let o : stateOf c l .opened ≡ none = open-none (stateOf c l .opened) (sound-atEnd (logOf c l) (h .good) .waits) (s .complete) in
       let q : Follows (stateOf c l .unit) none (LB g) = begins (chosen-unit (stateOf c l) w g ch) (k .ok) in
       let fits : Fits (stateOf c l) (LB g) =
       record { room = omega arith; follows = subst (λ (y : Option Open). Follows (stateOf c l .unit) y (LB g)) (sym o) q } in
       let h′ : Stored c (l ++ (LB g ∷ [])) = stored-grown c l (LB g) h fits (omega arith) in
-      carried-able rs c (l ++ (LB g ∷ [])) (k .carried) refl h′ (running-begun c l g) (s .formed .sized .1) (omega (arith, at-grown c l (LB g)))
+      carried-able origin c (l ++ (LB g ∷ [])) (k .carried) refl h′ (running-begun c l g) (s .formed .sized .1) (omega (arith, at-grown c l (LB g)))
       (omega (arith, length-append l (LB g ∷ []))) (k .tidy .tree, k .same ∙ s .fine .1)
 
-  checked-good : (c c′ : Check) (w : List ℕ) (l : List Rec) → Settled store (asked rs) w c l → Checks c l c′
+  checked-good : (origin : List ℕ) (c c′ : Check) (w : List ℕ) (l : List Rec) → Settled store asked origin w c l → Checks c l c′
       → (Good (logOf c′ []) × (stateOf c′ [] .at ≤ logLength)) × (c′ .number ≡ c .number + length l + 1)
   unfolding checkpointed
-  checked-good c c′ w l s x =
+  checked-good origin c c′ w l s x =
       let g : Good (logOf c l) = s .shape .0 in
       let t : Sound (stateOf c l) = sound-atEnd (logOf c l) g in
       let small : Small (checkpointed (x .clear) (stateOf c l)) =
       record { number = x .numbered; unit = t .unit; lk = λ k e. lk-kept (x .clear) (stateOf c l .lk) k (t .lk) e } in
       rw (x .is) ((good-bare (checkpointed (x .clear) (stateOf c l)) small, omega (arith, bare-at (checkpointed (x .clear) (stateOf c l)))), omega (arith, number-atEnd (logOf c l)))
 
-  pub unit-laws : UnitLaws store (asked rs)
+  pub unit-laws : UnitLaws store asked
   unit-laws =
       record {
-        none-open = none-left-bare;
-        unit = λ c w w′ l r s b e.
+        unit = λ o c w w′ l r s b e.
             let i : w ≡ w′ =
             Option·some-injective w w′ (sym (apply-begin (c .number + length l + 1) (b .begun) w) ∙ sym (ap (λ (y : Rec). apply (c .number + length l + 1) y w) (b .is)) ∙ e) in
-            subst (λ (v : List ℕ). Able store (asked rs) c v (l ++ (r ∷ []))) i
-            (subst (λ (y : Rec). Able store (asked rs) c w (l ++ (y ∷ []))) (sym (b .is)) (begun-able c w l (b .begun) s (b .chosen) (b .fits) (b .numbered) (b .unit)));
-        checked = λ c c′ w l s x. checked-good c c′ w l s x;
+            subst (λ (v : List ℕ). Able store asked o c v (l ++ (r ∷ []))) i
+            (subst (λ (y : Rec). Able store asked o c w (l ++ (y ∷ []))) (sym (b .is)) (begun-able o c w l (b .begun) s (b .chosen) (b .fits) (b .numbered) (b .unit)));
+        checked = λ o c c′ w w′ s′ l s x.
+            let (a, b) = checked-good o c c′ w l s (x .0) in
+            let t : Settled store asked w w c′ [] =
+            record { formed = s .formed; shape = a; low = λ p i. omega (arith, s .low p i); fine = (s .fine .0, refl); complete = none-left-bare c′ } in
+            (subst (λ (y : List ℕ). Settled store asked y y c′ []) (sym (x .1)) t, x .1 ∙ sym (x .2));
+        rewritten = λ o c w w′ l f a e. absurd e;
+        torn = λ o c w s l t g e q. absurd e;
       }

@@ -66,11 +66,11 @@ abbrev pub recoveredAs : (d : Lent) (c : Check) (l : List Rec) (work : List ℕ)
 recoveredAs d c l work rest =
     left 0 (length rest ∷ []) (lent (stateOf c (l ++ rest) .at) (stateOf c l .at) work (d .store) (image c (l ++ rest)) (d .bytes))
 
-module _ (rs : List (List ℕ)) (d : Lent) (o : List ℕ) (c : Check) (l : List Rec) where
+module _ (d : Lent) (o : List ℕ) (c : Check) (l : List Rec) where
   grown-count : (rest : List Rec) → stateOf c (l ++ rest) .number - stateOf c l .number ≡ length rest
   grown-count rest = omega (arith, number-atEnd (logOf c (l ++ rest)), number-atEnd (logOf c l), length-append l rest)
 
-  pub recover-is : threeSized d ≡ true → d .log ≡ image c l → Good (logOf c l) → (v : Recovers store (asked rs) o (d .store) c l)
+  pub recover-is : threeSized d ≡ true → d .log ≡ image c l → Good (logOf c l) → (v : Recovers store asked o (d .store) c l)
       → Calls.recover d ≡ recoveredAs d c l (v .work) (v .rest)
   unfolding Calls.recover recovered Replay.recover
   recover-is sized log g v =

@@ -17,12 +17,12 @@ use Rattle.store.specs.Calls as Calls
 use Rattle.store.proofs.Refusals.{reply-refused}
 use Rattle.replay.specs.Store.{Settled}
 use Rattle.replay.specs.Laws.{UnitLaws}
-use Rattle.replay.proofs.Theorem.{step-accepted}
+use Rattle.replay.proofs.Theorem.{ran-step}
 use Rattle.promise.specs.Parts.{logOf, stateOf, store, asked}
 use Rattle.promise.specs.Promise.{Spared, Steps}
 use Rattle.promise.proofs.OnPages.{page-laws}
 use Rattle.promise.proofs.Image.{read-image}
-use Rattle.promise.proofs.Live.{Live, stored, two-sized, known-live}
+use Rattle.promise.proofs.Live.{Ran, stored, two-sized, known-ran}
 use Rattle.promise.proofs.Called.{settled, step-is, step-none, open-left, not-there}
 
 -- a call that was accepted, or refused with another number
@@ -43,7 +43,7 @@ unfolding given
 spared-value none x f h k = h
 spared-value (some a) x f h k = k a
 
-module _ (rs : List (List ℕ)) (U : UnitLaws store (asked rs)) {origin : List ℕ} (d : Lent) (v : Live rs origin d) where
+module _ (U : UnitLaws store asked) {origin : List ℕ} (d : Lent) (v : Ran origin d) where
   r6 : Spared (refused 0 6 d)
   r6 = other 0 6 d (λ q. omega arith) (λ q. omega arith) (λ q. omega arith) (λ q. omega arith)
 
@@ -69,7 +69,7 @@ module _ (rs : List (List ℕ)) (U : UnitLaws store (asked rs)) {origin : List �
   unfolding beginWith
   shut-spared choose false e = rw (need-false _ (refused 0 9 d) _ (sym e)) r9
   shut-spared choose true e =
-      let s : Settled store (asked rs) (d .work) (v .top) (v .recs) = settled rs U d v (not-there (stateOf (v .top) (v .recs) .opened) (sym e)) in
+      let s : Settled store asked origin (d .work) (v .top) (v .recs) = settled U d v (not-there (stateOf (v .top) (v .recs) .opened) (sym e)) in
       rw (need-true _ (refused 0 9 d) _ (sym e))
       (rw (need-true _ (refused 0 3 d) _ (formed-pages (d .work) (s .formed .form)))
       (rw (need-true _ (refused 0 8 d) _ (s .fine .0))
@@ -81,29 +81,29 @@ module _ (rs : List (List ℕ)) (U : UnitLaws store (asked rs)) {origin : List �
   pub begin-compact-spared : (fill : ℕ) → Spared (Calls.beginCompact fill d)
   unfolding Calls.beginCompact
   begin-compact-spared fill =
-      rw (need-true _ (refused 0 1 d) _ (two-sized rs U d v))
-      (rw (given-some _ (logOf (v .top) (v .recs)) (refused 0 2 d) _ (known-live rs U d v))
+      rw (need-true _ (refused 0 1 d) _ (two-sized U d v))
+      (rw (given-some _ (logOf (v .top) (v .recs)) (refused 0 2 d) _ (known-ran U d v))
       (spared-test _ _ _ r12 (begin-spared _)))
 
   pub begin-order-spared : Spared (Calls.beginOrder d)
   unfolding Calls.beginOrder
   begin-order-spared =
-      rw (need-true _ (refused 0 1 d) _ (two-sized rs U d v))
-      (rw (given-some _ (logOf (v .top) (v .recs)) (refused 0 2 d) _ (known-live rs U d v)) (begin-spared orderUnit))
+      rw (need-true _ (refused 0 1 d) _ (two-sized U d v))
+      (rw (given-some _ (logOf (v .top) (v .recs)) (refused 0 2 d) _ (known-ran U d v)) (begin-spared orderUnit))
 
   -- a step is accepted where a unit is open, and there is nothing to do otherwise
   step-replies : (o : Option Open) → stateOf (v .top) (v .recs) .opened ≡ o → Calls.step d .reply ≡ pick (there o) 0 10
   unfolding pick there
-  step-replies none e = ap (λ (x : Left). x .reply) (step-none rs U d v e) ∙ reply-refused 0 d 10
+  step-replies none e = ap (λ (x : Left). x .reply) (step-none U d v e) ∙ reply-refused 0 d 10
   step-replies (some o) e =
-      let (k, z) = open-left rs U d v o e in
-      let (r, w′, next, applies, fewer) = step-accepted store (asked rs) (page-laws rs) U (v .reached) z in
-      ap (λ (x : Left). x .reply) (step-is rs U d v k r w′ z next applies)
+      let (k, z) = open-left U d v o e in
+      let (r, w′, next, applies, fewer) = ran-step store asked page-laws U (v .settled) (v .uncut) z in
+      ap (λ (x : Left). x .reply) (step-is U d v k r w′ z next applies)
 
   pub steps : Steps d
   steps =
       record {
         log = logOf (v .top) (v .recs);
-        is = ap readLog (v .log) ∙ read-image (v .top) (v .recs) (stored rs U d v .good);
+        is = ap readLog (v .log) ∙ read-image (v .top) (v .recs) (stored U d v .good);
         reply = step-replies (stateOf (v .top) (v .recs) .opened) refl;
       }

@@ -118,21 +118,23 @@ unfolding todoOf atEnd afterAll first
 none-left-bare c = refl
 
 -- pages that the tests have found well formed, and a log of its check record alone
-pub settled-bare : (rs : List (List ℕ)) (w : List ℕ) (c : Check) → length w ≡ 16384 → Bytes w → Stored c [] → allFormed 0 (pages w) ≡ true
-    → noneNewer (stateOf c [] .number) (pages w) ≡ true → wellFormed (pages w) ≡ true → allRecords (pages w) ≡ rs → Settled store (asked rs) w c []
-settled-bare rs w c n b st f low well e =
+settled-bare : (w : List ℕ) (c : Check) → length w ≡ 16384 → Bytes w → Stored c [] → allFormed 0 (pages w) ≡ true
+    → noneNewer (stateOf c [] .number) (pages w) ≡ true → wellFormed (pages w) ≡ true → Settled store asked w w c []
+settled-bare w c n b st f low well =
     record {
       formed = record { sized = (n, b); form = λ p h. formed-page p w f h };
       shape = (st .good, st .fits);
       low = λ p h. rw (← (number-atEnd (logOf c []))) (pages-low (stateOf c [] .number) w low p h);
-      fine = (well, e);
+      fine = (well, refl);
       complete = none-left-bare c;
     }
 
 -- the same pages in work and store, the numbers at the check record's end
-pub live-bare : (rs : List (List ℕ)) (w b : List ℕ) (c : Check) → Settled store (asked rs) w c [] → Live rs w (lent 24 24 w w (image c []) b)
-live-bare rs w b c g =
+live-bare : (rs : List (List ℕ)) (w b : List ℕ) (c : Check) → Settled store asked w w c [] → allRecords (pages w) ≡ rs
+    → Live rs w (lent 24 24 w w (image c []) b)
+live-bare rs w b c g e =
     record {
+      records = e;
       top = c;
       recs = [];
       many = 0;
@@ -152,11 +154,11 @@ woken-live rs d c b e r q =
     let st : Stored c [] = stored-read (d .log) (logOf c []) m (b .log) r in
     let i : d .log ≡ image c [] = image-read (d .log) (logOf c []) m r in
     let k : allRecords (pages (d .store)) ≡ rs = sym (q ∙ ap (λ (x : Left). allRecords (pages (x .now .work))) (f .is)) in
-    let g : Settled store (asked rs) (d .store) c [] = settled-bare rs (d .store) c n (b .store) st (f .form) (f .low) (f .well) k in
+    let g : Settled store asked (d .store) (d .store) c [] = settled-bare (d .store) c n (b .store) st (f .form) (f .low) (f .well) in
     let y : Left = left 0 (0 ∷ []) (lent 24 24 (d .store) (d .store) (image c []) (d .bytes)) in
     let z : Calls.recover d ≡ y =
     f .is ∙ ap₂ (λ (a : ℕ) (l : List ℕ). left 0 (0 ∷ []) (lent a a (d .store) (d .store) l (d .bytes))) (bare-at c) i in
-    (subst (λ (x : Left). Live rs (x .now .work) (x .now)) (sym z) (live-bare rs (d .store) (d .bytes) c g), ap (λ (x : Left). x .now .forced) z)
+    (subst (λ (x : Left). Live rs (x .now .work) (x .now)) (sym z) (live-bare rs (d .store) (d .bytes) c g k), ap (λ (x : Left). x .now .forced) z)
 
 -- ---- a finished build
 
@@ -227,7 +229,8 @@ built-live rs f g d b e q =
     let l : Laid (layout f g rows) rows =
     layout-laws f g rows (x .leaf-low) (x .leaf-high) (x .base-low) (x .base-high) (long-rowsOf 16 k (d .bytes) h) (bytes-rowsOf 16 k (d .bytes) b) (x .order)
     (x .leaves) (x .bases) in
-    let s : Settled store (asked rs) (layout f g rows) newest [] =
-    settled-bare rs (layout f g rows) newest (l .whole) (l .bytes) newest-stored (l .form) (low-zero _ (layout f g rows) (l .stamps)) (l .tree) (l .holds ∙ sym q) in
+    let s : Settled store asked (layout f g rows) (layout f g rows) newest [] =
+    settled-bare (layout f g rows) newest (l .whole) (l .bytes) newest-stored (l .form) (low-zero _ (layout f g rows) (l .stamps)) (l .tree) in
+    let m : allRecords (pages (layout f g rows)) ≡ rs = l .holds ∙ sym q in
     let z = x .is ∙ ap (λ (i : List ℕ). left 0 [] (lent 24 24 (layout f g rows) (layout f g rows) i (d .bytes))) (sym (image-bare newest)) in
-    (subst (λ (y : Left). Live rs (y .now .work) (y .now)) (sym z) (live-bare rs (layout f g rows) (d .bytes) newest s), sym (ap (λ (y : Left). y .now .forced) z))
+    (subst (λ (y : Left). Live rs (y .now .work) (y .now)) (sym z) (live-bare rs (layout f g rows) (d .bytes) newest s m), sym (ap (λ (y : Left). y .now .forced) z))

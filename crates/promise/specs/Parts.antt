@@ -55,7 +55,7 @@ store =
       apply = apply;
       repeat = repeat;
       num = λ c. c .number;
-      left = λ c l. length (todoOf (stateOf c l .opened));
+      left = λ c w l. length (todoOf (stateOf c l .opened));
       next = λ c w l. nextOf (todoOf (stateOf c l .opened)) (stateOf c l) w;
     }
 
@@ -79,14 +79,16 @@ pub record Checks (c : Check) (l : List Rec) (c′ : Check) : Type 0 where
   pub is : c′ ≡ checkpointed clear (stateOf c l)
   pub numbered : stateOf c l .number + 1 ≤ most4
 
--- what is asked, for the records rs at the start of the history
-abbrev pub asked : (rs : List (List ℕ)) → Meaning store
-asked rs =
+-- what is asked: the records are those of the pages at the check record; a checkpoint leaves every page as it is, so that none is found rewritten
+abbrev pub asked : Meaning store
+asked =
     record {
       Sized = λ w. (length w ≡ pagesLength) × Bytes w;
       Form = λ p pg. formed p pg ≡ true;
       Shape = λ c l. Good (logOf c l) × (stateOf c l .at ≤ logLength);
-      Fine = λ w. (wellFormed (pages w) ≡ true) × (allRecords (pages w) ≡ rs);
+      Fine = λ o l w. (wellFormed (pages w) ≡ true) × (allRecords (pages w) ≡ allRecords (pages o));
       Begins = Begins;
-      Checks = Checks;
+      Checks = λ c w s l c′ w′ s′. Checks c l c′ × (w′ ≡ w) × (s′ ≡ s);
+      Tears = λ c s l s′. ⊥;
+      Event = λ c w l w′. ⊥;
     }

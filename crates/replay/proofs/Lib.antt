@@ -1,4 +1,5 @@
 -- The theorem, from runs of records over one page up to every history, what it says of the single calls, and a small format.
+pub mod Each
 pub mod Runs
 pub mod Page
 pub mod Pages

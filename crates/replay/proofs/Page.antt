@@ -1,62 +1,77 @@
--- One page: a log repeated by the stamps over any earlier content of the page gives what the log gave. D is what a record does to this page:
--- it leads to one end at most, and a page that it changes bears its number. Assumes nothing.
+-- One page: what a record repeated makes of it, and logs that leave it as it is. Assumes nothing.
 use Prim.Native.Nat.{ℕ, _+_, _≤_, _<_}
-use mathlib.Core.Path.{_≡_, refl, sym, ap, _∙_, subst₂}
-use mathlib.Core.List.{List, _++_}
+use mathlib.Core.Path.{_≡_, refl, sym, _∙_}
+use mathlib.Core.Bool.{Bool, true, false, cond}
+use mathlib.Core.List.{List, [], _∷_}
 use mathlib.Core.Logic.{_⊎_, inl, inr, ⊎-elim}
-use native.Mathlib.Decide.{decLe}
+use mathlib.Core.Option.{some, Option·some-injective}
 use native.Mathlib.Omega.{arith}
+use lib.Dec.{leb}
 use lib.ListN.{length}
-use Rattle.replay.proofs.Runs.{Runs, done, then, run-append, run-split, run-same}
+use borrow.Author.Tests.{le-leb, lt-leb}
+use Rattle.replay.specs.Store.{Format, again, Meaning}
+use Rattle.replay.specs.Laws.{Each, none, also, Stands, Touches, Passes, PageLaws}
+use Rattle.replay.proofs.Each.{each-map}
+use Rattle.replay.proofs.Runs.{Runs, done, then}
 
-module _ {R X : Type 0} (stamp : X → ℕ) (D : ℕ → R → X → X → Type 0) where
-  -- a record repeated: a page whose stamp is not below its number stays
-  pub data Again (n : ℕ) (r : R) : X → X → Type 0 where
-    stays : {x : X} → n ≤ stamp x → Again n r x x
-    goes : {x y : X} → stamp x < n → D n r x y → Again n r x y
+module _ (F : Format) (M : Meaning F) where
+  open Format F using (Page, Rec, many, stamp, change)
+  open Meaning M using (Form)
 
-  module _ (same : (n : ℕ) (r : R) (x y z : X) → D n r x y → D n r x z → y ≡ z)
-      (stamped : (n : ℕ) (r : R) (x y : X) → D n r x y → (y ≡ x) ⊎ (stamp y ≡ n)) where
-    -- after one record the stamp is at most its number
-    stamp-next : (n : ℕ) (r : R) (x y : X) → stamp x < n → D n r x y → stamp y < n + 1
-    stamp-next n r x y b d = ⊎-elim (λ e. omega (arith, ap stamp e)) (λ e. omega arith) (stamped n r x y d)
+  -- the record numbered n, repeated at page p, makes z of x, and z is in form
+  pub record AgainAt (p n : ℕ) (r : Rec) (x z : Page) : Type 0 where
+    pub made : again F n r p x ≡ some z
+    pub form : Form p z
 
-    -- a page that a run changed has a stamp from the run's first number on ..
-    pub stamp-changed : {n : ℕ} {rs : List R} {x y : X} → Runs D n rs x y → (y ≡ x) ⊎ (n ≤ stamp y)
-    stamp-changed done = inl refl
-    stamp-changed (then {n = n} {r = r} {x = x} {z = z} d h) =
+  -- a page that bears the number or a later one stays
+  stays-at : (p n : ℕ) (r : Rec) (x : Page) → Form p x → n ≤ stamp x → AgainAt p n r x x
+  unfolding again
+  stays-at p n r x f k = record { made = rw (le-leb, k); form = f }
+
+  -- .. one that the record does not concern stays too
+  passes-at : (p n : ℕ) (r : Rec) (x : Page) → Form p x → Passes F M p n r → AgainAt p n r x x
+  unfolding again
+  passes-at p n r x f k = record { made = either (leb n (stamp x)); form = f }
+    where
+      either : (b : Bool) → cond b (some x) (change n r p x) ≡ some x
+      either true = refl
+      either false = k x f
+
+  -- ---- logs that leave the page as it is
+
+  -- of the records, the first numbered n, those with a number above k do not concern page p
+  abbrev pub Quiet : (p k : ℕ) → (n : ℕ) → List Rec → Type 0
+  Quiet p k = Each (λ n r. (n ≤ k) ⊎ Passes F M p n r)
+
+  -- records none of which has a higher number
+  pub quiet-top : (p k n : ℕ) (rs : List Rec) → n + length rs ≤ k + 1 → Quiet p k n rs
+  quiet-top p k n [] h = none
+  quiet-top p k n (r ∷ rs) h = also {n = n} (inl (omega arith)) (quiet-top p k (n + 1) rs (omega arith))
+
+  -- where all have, none concerns the page
+  pub quiet-passes : (p k n : ℕ) (rs : List Rec) → k < n → Quiet p k n rs → Each (Passes F M p) n rs
+  quiet-passes p k n rs h q =
+      each-map (λ m r i. ⊎-elim (λ (a : m ≤ k). absurd (omega arith)) (λ (a : Passes F M p m r). a)) q
+
+  -- repeated over such a page, the log changes nothing
+  pub quiet-run : (p n : ℕ) (rs : List Rec) (x : Page) → Form p x → Quiet p (stamp x) n rs → Runs (AgainAt p) n rs x x
+  quiet-run p n [] x f q = done
+  quiet-run p n (r ∷ rs) x f (also (inl a) q) = then (stays-at p n r x f a) (quiet-run p (n + 1) rs x f q)
+  quiet-run p n (r ∷ rs) x f (also (inr a) q) = then (passes-at p n r x f a) (quiet-run p (n + 1) rs x f q)
+
+  -- ---- one record more, on a page with a lower number
+
+  module _ (P : PageLaws F M) (p n : ℕ) (r : Rec) (y z : Page) (s : Stands F M n r) (i : p < many) (f : Form p y) (k : stamp y < n)
+      (c : change n r p y ≡ some z) where
+    -- the page stays in form
+    pub changed-form : Form p z
+    changed-form =
         ⊎-elim
-        (λ e. ⊎-elim (λ k. inl (e ∙ k)) (λ k. inr (omega (arith, ap stamp e))) (stamped n r x z d))
-        (λ e. inr (omega arith))
-        (stamp-changed h)
+        (λ (t : Touches F M p n r). t .formed y z f k c)
+        (λ (t : Passes F M p n r). let e : y ≡ z = Option·some-injective y z (sym (t y f) ∙ c) in rw e at f)
+        (P .concerns n r p s i)
 
-    -- .. and below the number after its last
-    pub stamp-below : {n : ℕ} {rs : List R} {x y : X} → stamp x < n → Runs D n rs x y → stamp y < n + length rs
-    stamp-below b done = omega arith
-    stamp-below b (then {n = n} {r = r} {x = x} {z = z} d h) = omega (arith, stamp-below (stamp-next n r x z b d) h)
-
-    -- repeated over its own end, a run changes nothing
-    again-end : {n : ℕ} {rs : List R} {x y : X} → Runs D n rs x y → Runs Again n rs y y
-    again-end done = done
-    again-end {y = y} (then {n = n} {r = r} {x = x} {z = z} d h) =
-        then once (again-end h)
-      where
-        low : stamp y < n → Again n r y y
-        low k =
-            let a : x ≡ y = sym (⊎-elim (λ e. e) (λ e. absurd (omega arith)) (stamp-changed (then d h))) in
-            let b : z ≡ y = sym (⊎-elim (λ e. e) (λ e. absurd (omega arith)) (stamp-changed h)) in
-            goes k (subst₂ (D n r) a b d)
-
-        once : Again n r y y
-        once = elim (decLe n (stamp y)) [ yes k ↦ stays k | no k ↦ low (omega arith) ]
-
-    -- repeated over a page with a lower stamp, a run does what it did
-    again-start : {n : ℕ} {rs : List R} {x y : X} → stamp x < n → Runs D n rs x y → Runs Again n rs x y
-    again-start b done = done
-    again-start b (then {n = n} {r = r} {x = x} {z = z} d h) = then (goes b d) (again-start (stamp-next n r x z b d) h)
-
-    -- repeated over what its first part left, a run gives what it gave
-    pub again-run : {n : ℕ} (rs ss : List R) {x s y : X} → stamp x < n → Runs D n rs x s → Runs D n (rs ++ ss) x y → Runs Again n (rs ++ ss) s y
-    again-run rs ss b h k =
-        let (z, a, t) = run-split rs k in
-        run-append refl (again-end h) (again-start (stamp-below b h) (rw (run-same same a h) at t))
+    -- repeated, the record does what it did
+    pub changed-again : AgainAt p n r y z
+    unfolding again
+    changed-again = record { made = rw (lt-leb, k) c; form = changed-form }

@@ -1,116 +1,106 @@
--- Runs without cuts: they keep form and stamps, every beginning of their log is one too, and their open unit can always be finished.
+-- Runs without cuts keep form and numbers, what they left is left alone by their own log, and their open unit can always be finished.
 -- Assumes nothing.
 use Prim.Native.Nat.{ℕ, _+_, _≤_, _<_}
-use mathlib.Core.Path.{_≡_, refl, sym}
-use mathlib.Core.List.{List, [], _∷_, _++_, append-nil, append-assoc}
-use mathlib.Core.Option.{some, bind}
-use native.Mathlib.Decide.{decLe}
+use mathlib.Core.Path.{_≡_, refl, sym, ap, _∙_}
+use mathlib.Core.List.{List, [], _∷_, _++_}
+use mathlib.Core.Logic.{_⊎_, inl, inr, ⊎-elim}
+use mathlib.Core.Option.{some, Option·some-injective}
 use native.Mathlib.Omega.{arith}
-use lib.ListN.{length, take, length-append}
-use lib.Seq.{take-append-le, take-all, take-nil}
-use Rattle.replay.specs.Store.{Format, last, finish, Meaning, Formed, Settled, Uncut}
-use Rattle.replay.specs.Laws.{PageLaws, UnitLaws, Able, closed, more}
+use lib.ListN.{length-append}
+use Rattle.replay.specs.Store.{Format, last, Meaning, Formed, Settled, Uncut}
+use Rattle.replay.specs.Laws.{none, Stands, Touches, Passes, PageLaws, Able, closed, UnitLaws}
+use Rattle.replay.proofs.Each.{each-snoc}
+use Rattle.replay.proofs.Page.{Quiet, quiet-top}
+use Rattle.replay.proofs.Pages.{Stood, applied-formed}
 use Rattle.replay.proofs.Able.{able-shape, able-fine, able-step}
-use Rattle.replay.proofs.Runs.{Runs, done, run-snoc}
-use Rattle.replay.proofs.Page.{stamp-below}
-use Rattle.replay.proofs.Pages.{Does, DoesAt, at-same, at-stamped, does-formed, run-at}
 
 module _ (F : Format) (M : Meaning F) where
-  open Format F using (Pages, Rec, Check, left)
+  open Format F using (Pages, Rec, Check, many, at, stamp, num)
 
-  -- ---- beginnings of a run's log
-
-  -- of a log with one record more
-  prefix-snoc : {o w : Pages} {c : Check} (l : List Rec) (r : Rec) → Uncut F M o c w (l ++ (r ∷ []))
-      → ((m : ℕ) → m ≤ length l → (v : Pages) × Uncut F M o c v (take m l))
-      → (m : ℕ) → m ≤ length (l ++ (r ∷ [])) → (v : Pages) × Uncut F M o c v (take m (l ++ (r ∷ [])))
-  prefix-snoc {w = w} l r u before m h =
-      elim (decLe m (length l)) [
-        | yes k ↦ rw (take-append-le m l (r ∷ []) k) (before m k)
-        | no k ↦ (w, rw (take-all m (l ++ (r ∷ [])) (omega (arith, length-append l (r ∷ [])))) u)
-      ]
-
-  -- the first m records are those of an uncut run, to other pages
-  pub prefix : {o w : Pages} {c : Check} {l : List Rec} → Uncut F M o c w l → (m : ℕ) → m ≤ length l → (v : Pages) × Uncut F M o c v (take m l)
-  prefix {o = o} Uncut.start m h = (o, rw (take-nil m) Uncut.start)
-  prefix (Uncut.begin {l = l} {r = r} u z g e) m h = prefix-snoc l r (Uncut.begin u z g e) (λ k i. prefix u k i) m h
-  prefix (Uncut.step {l = l} {r = r} u k g e) m h = prefix-snoc l r (Uncut.step u k g e) (λ k i. prefix u k i) m h
-
-  -- ---- the open unit finished
-
-  -- what finishing gives from pages w and records l
-  pub record Finished (o : Pages) (c : Check) (w : Pages) (l : List Rec) : Type 0 where
-    pub work : Pages
-    pub rest : List Rec
-    pub made : finish F c (left c l) w l ≡ some (work, l ++ rest)
-    pub appended : length rest ≡ left c l
-    pub complete : left c (l ++ rest) ≡ 0
-    pub uncut : Uncut F M o c work (l ++ rest)
-
-  -- an uncut run that can be finished is, by steps
-  pub finished : {o w : Pages} {c : Check} {l : List Rec} → Uncut F M o c w l → Able F M c w l → Finished o c w l
-  unfolding finish bind
-  finished {w = w} {l = l} u (closed s z f) =
-      let e : l ++ [] ≡ l = append-nil l in
-      record { work = w; rest = []; made = rw (z, e); appended = sym z; complete = rw e z; uncut = rw e u }
-  finished {l = l} u (more {r = r} s k j n a t) =
-      let d = finished (Uncut.step u k n a) t in
-      let e : l ++ (r ∷ []) ++ d .rest ≡ l ++ (r ∷ d .rest) = append-assoc l (r ∷ []) (d .rest) in
-      record {
-        work = d .work;
-        rest = r ∷ d .rest;
-        made = rw (k, n, a) (rw (j, e) at (d .made));
-        appended = omega (arith, d .appended);
-        complete = rw e at (d .complete);
-        uncut = rw e at (d .uncut);
-      }
-
-module _ (F : Format) (M : Meaning F) (P : PageLaws F M) (U : UnitLaws F M) where
-  open Format F using (Page, Pages, Rec, Check, many, at, stamp, apply, num, left)
-
-  -- ---- what an uncut run from settled pages o keeps
-
-  -- its pages are in form, its open unit can be finished, and its log gives its pages
+  -- pages in form with numbers of the log, no record of which concerns a page with a lower number; an open unit that can be finished
   pub record Sound (o : Pages) (c : Check) (w : Pages) (l : List Rec) : Type 0 where
     pub formed : Formed F M w
-    pub able : Able F M c w l
-    pub history : Runs (Does F M P) (num c + 1) l o w
+    pub able : Able F M o c w l
+    pub low : (p : ℕ) → p < many → stamp (at w p) ≤ last F c l
+    pub quiet : (p : ℕ) → p < many → Quiet F M p (stamp (at w p)) (num c + 1) l
+    pub stood : Stood F M (num c + 1) l
 
-  -- at one page
-  pub page-history : {o w : Pages} {c : Check} {l : List Rec} → Sound o c w l → (p : ℕ) → p < many
-      → Runs (DoesAt F M P p) (num c + 1) l (at o p) (at w p)
-  page-history s = run-at F M P (s .history)
-
-  -- what a run at one page from settled pages leaves has a stamp of the run at most
-  pub page-stamp : {o : Pages} {c : Check} {l : List Rec} {pg : Page} → Settled F M o c [] → (p : ℕ) → p < many
-      → Runs (DoesAt F M P p) (num c + 1) l (at o p) pg → stamp pg ≤ last F c l
-  page-stamp g p i h = omega (arith, stamp-below stamp (DoesAt F M P p) (at-same F M P p) (at-stamped F M P p) (omega (arith, g .low p i)) h)
+module _ (F : Format) (M : Meaning F) (P : PageLaws F M) (U : UnitLaws F M) where
+  open Format F using (Pages, Rec, Check, many, at, stamp, change, apply, num, left)
 
   -- between two units the run is settled
-  pub sound-settled : {o w : Pages} {c : Check} {l : List Rec} → Settled F M o c [] → Sound o c w l → left c l ≡ 0 → Settled F M w c l
-  sound-settled g s z =
+  pub sound-settled : {o w : Pages} {c : Check} {l : List Rec} → Sound F M o c w l → left c w l ≡ 0 → Settled F M o w c l
+  sound-settled s z =
       record {
         formed = s .formed;
         shape = able-shape F M (s .able);
-        low = λ p i. page-stamp g p i (page-history s p i);
+        low = λ p i. omega (arith, s .low p i);
         fine = able-fine F M (s .able) z;
         complete = z;
       }
 
+  -- the record after l stands
+  pub stands-next : {o w : Pages} {c : Check} (l : List Rec) (r : Rec) → Able F M o c w (l ++ (r ∷ [])) → Stands F M (last F c l + 1) r
+  stands-next {c = c} l r a = record { top = c; before = l; numbered = refl; shape = able-shape F M a }
+
+  -- a page after one record more: stamped, or as it was
+  pub one-more : {o w : Pages} {c : Check} {l : List Rec} (r : Rec) (w′ : Pages) → Sound F M o c w l → Stands F M (last F c l + 1) r
+      → apply (last F c l + 1) r w ≡ some w′ → (p : ℕ) → p < many
+      → (stamp (at w′ p) ≡ last F c l + 1) ⊎ ((at w′ p ≡ at w p) × Passes F M p (last F c l + 1) r)
+  one-more {w = w} {c = c} {l = l} r w′ s t e p i =
+      let d : change (last F c l + 1) r p (at w p) ≡ some (at w′ p) = P .applied (last F c l + 1) r w w′ t (s .formed) e .1 p i in
+      ⊎-elim
+      (λ (h : Touches F M p (last F c l + 1) r). inl (h .stamped (at w p) (at w′ p) (s .formed .form p i) (omega (arith, s .low p i)) d))
+      (λ (h : Passes F M p (last F c l + 1) r).
+      inr (Option·some-injective (at w′ p) (at w p) (sym d ∙ h (at w p) (s .formed .form p i)), h))
+      (P .concerns (last F c l + 1) r p t i)
+
   -- one record more
-  sound-snoc : {o w w′ : Pages} {c : Check} (l : List Rec) (r : Rec) → Sound o c w l → Able F M c w′ (l ++ (r ∷ []))
-      → apply (last F c l + 1) r w ≡ some w′ → Sound o c w′ (l ++ (r ∷ []))
-  sound-snoc {w = w} {w′ = w′} {c = c} l r s a e =
-      let d : Does F M P (last F c l + 1) r w w′ =
-      record { stands = record { top = c; before = l; numbered = refl; shape = able-shape F M a }; formed = s .formed; made = e } in
-      record { formed = does-formed F M P (last F c l + 1) r w w′ d; able = a; history = run-snoc (omega arith) (s .history) d }
+  sound-snoc : {o w w′ : Pages} {c : Check} (l : List Rec) (r : Rec) → Sound F M o c w l → Able F M o c w′ (l ++ (r ∷ []))
+      → apply (last F c l + 1) r w ≡ some w′ → Sound F M o c w′ (l ++ (r ∷ []))
+  sound-snoc {o = o} {w = w} {w′ = w′} {c = c} l r s a e =
+      let t : Stands F M (last F c l + 1) r = stands-next l r a in
+      record {
+        formed = applied-formed F M P (last F c l + 1) r w w′ t (s .formed) (λ p i. omega (arith, s .low p i)) e;
+        able = a;
+        low = λ p i. low p i (one-more r w′ s t e p i);
+        quiet = λ p i. quiet p i (one-more r w′ s t e p i);
+        stood = each-snoc r (omega arith) (s .stood) t;
+      }
+    where
+      low : (p : ℕ) → p < many → (stamp (at w′ p) ≡ last F c l + 1) ⊎ ((at w′ p ≡ at w p) × Passes F M p (last F c l + 1) r)
+          → stamp (at w′ p) ≤ last F c (l ++ (r ∷ []))
+      low p i (inl h) = omega (arith, length-append l (r ∷ []))
+      low p i (inr h) = omega (arith, ap stamp (h .0), s .low p i, length-append l (r ∷ []))
+
+      quiet : (p : ℕ) → p < many → (stamp (at w′ p) ≡ last F c l + 1) ⊎ ((at w′ p ≡ at w p) × Passes F M p (last F c l + 1) r)
+          → Quiet F M p (stamp (at w′ p)) (num c + 1) (l ++ (r ∷ []))
+      quiet p i (inl h) = quiet-top F M p (stamp (at w′ p)) (num c + 1) (l ++ (r ∷ [])) (omega (arith, length-append l (r ∷ [])))
+      quiet p i (inr h) = rw (h .0) (each-snoc r (omega arith) (s .quiet p i) (inr (h .1)))
 
   -- every uncut run from settled pages
-  pub sound : {o w : Pages} {c : Check} {l : List Rec} → Settled F M o c [] → Uncut F M o c w l → Sound o c w l
-  sound g Uncut.start = record { formed = g .formed; able = closed (g .shape) (g .complete) (g .fine); history = done }
-  sound {c = c} g (Uncut.begin {w = w} {w′ = w′} {l = l} {r = r} u z h e) =
+  pub sound : {o w : Pages} {c : Check} {l : List Rec} → Settled F M o o c [] → Uncut F M o c w l → Sound F M o c w l
+  sound g Uncut.start =
+      record {
+        formed = g .formed;
+        able = closed (g .shape) (g .complete) (g .fine);
+        low = λ p i. omega (arith, g .low p i);
+        quiet = λ p i. none;
+        stood = none;
+      }
+  sound {o = o} {c = c} g (Uncut.begin {w = w} {w′ = w′} {l = l} {r = r} u z h e) =
       let s = sound g u in
-      sound-snoc l r s (U .unit c w w′ l r (sound-settled g s z) h e) e
+      sound-snoc l r s (U .unit o c w w′ l r (sound-settled s z) h e) e
   sound g (Uncut.step {l = l} {r = r} u k h e) =
       let s = sound g u in
       sound-snoc l r s (able-step F M (s .able) k h e) e
+  sound {o = o} {c = c} g (Uncut.event {w = w} {w′ = w′} {l = l} u h) =
+      let s = sound g u in
+      let t = U .rewritten o c w w′ l (s .formed) (s .able) h in
+      record {
+        formed = t .formed;
+        able = t .able;
+        low = λ p i. rw (t .stamps p i) (s .low p i);
+        quiet = λ p i. rw (t .stamps p i) (s .quiet p i);
+        stood = s .stood;
+      }

@@ -1,7 +1,9 @@
 -- Demand 3, the half that knows nothing of trees and bytes: pages that bear the number of their last change, a log of numbered records, and
 -- every order of calls and power cuts. `Format` is what pages, records and units do, `Meaning` what is asked of them. `Reached` holds of
 -- whatever a history leads to, `Recovers` says what recovery must then give. proofs/Theorem.antt shows it from the laws in Laws.antt.
--- A cut keeps the store as it is, every record of the log that was forced, and any number of those behind. Assumes nothing.
+-- A cut keeps the store as it is, every record of the log that was forced, and any number of those behind. A checkpoint may rewrite pages,
+-- each keeping its number, before it replaces the log: a cut in its midst leaves some rewritten beside the old log (`Tears`), and the run
+-- without cuts has that rewriting at the same point of the log (`Event`). Assumes nothing.
 use Prim.Native.Nat.{ℕ, zero, suc, _+_, _≤_, _<_}
 use mathlib.Core.Path.{_≡_}
 use mathlib.Core.Bool.{cond}
@@ -32,15 +34,15 @@ pub record Format : Type 1 where
   pub copy : (p : ℕ) → (from to : Pages) → Pages
   -- the number of the record that changed the page last
   pub stamp : Page → ℕ
-  -- what the record numbered n makes of page p: the same page where it does not concern it, none where it is refused
+  -- what the record numbered n makes of a page p with a lower number: the same page where it does not concern it, none where it is refused
   pub change : (n : ℕ) → Rec → (p : ℕ) → Page → Option Page
   -- what it makes of all pages, and what it makes of them when it is repeated: a page whose stamp is not below n stays
   pub apply : (n : ℕ) → Rec → Pages → Option Pages
   pub repeat : (n : ℕ) → Rec → Pages → Option Pages
   -- the check record's number; those of the records after it go on from there
   pub num : Check → ℕ
-  -- how many records the open unit still lacks; 0 where none is open
-  pub left : Check → List Rec → ℕ
+  -- how many records the open unit still lacks, by the pages too; 0 where none is open
+  pub left : Check → Pages → List Rec → ℕ
   -- the open unit's next record; none where the step is refused
   pub next : Check → Pages → List Rec → Option Rec
 
@@ -62,7 +64,7 @@ module _ (F : Format) where
 
   -- recovery: repeat the log over the stored pages, then finish the open unit
   unfoldable pub recover : Check → (store : Pages) → List Rec → Option (Pages × List Rec)
-  recover c s l = bind (run repeat (num c + 1) l s) (λ w. finish c (left c l) w l)
+  recover c s l = bind (run repeat (num c + 1) l s) (λ w. finish c (left c w l) w l)
 
 -- ---- what is asked
 
@@ -73,53 +75,60 @@ pub record Meaning (F : Format) : Type 1 where
   pub Form : (p : ℕ) → F .Page → Type 0
   -- log form
   pub Shape : F .Check → List (F .Rec) → Type 0
-  -- a well-formed tree with exactly the starting records
-  pub Fine : F .Pages → Type 0
+  -- a well-formed tree with the records that the log makes of those that the pages at the check record held
+  pub Fine : (origin : F .Pages) → List (F .Rec) → F .Pages → Type 0
   -- a begin call appends this record
   pub Begins : F .Check → F .Pages → List (F .Rec) → F .Rec → Type 0
-  -- a checkpoint call writes this check record
-  pub Checks : F .Check → List (F .Rec) → F .Check → Type 0
+  -- a checkpoint call makes these of the work pages and of the store's, and writes this check record
+  pub Checks : F .Check → (work store : F .Pages) → List (F .Rec) → F .Check → (work′ store′ : F .Pages) → Type 0
+  -- a checkpoint call that is cut before its log is written leaves these of the store's pages
+  pub Tears : F .Check → (store : F .Pages) → List (F .Rec) → (store′ : F .Pages) → Type 0
+  -- a rewriting of pages that the run without cuts has at this point of its log
+  pub Event : F .Check → F .Pages → List (F .Rec) → F .Pages → Type 0
 
 module _ (F : Format) (M : Meaning F) where
   open Format F using (Pages, Rec, Check, many, at, copy, stamp, apply, num, left, next)
-  open Meaning M using (Sized, Form, Shape, Fine, Begins, Checks)
+  open Meaning M using (Sized, Form, Shape, Fine, Begins, Checks, Tears, Event)
 
   -- pages of the right length, each in form
   pub record Formed (w : Pages) : Type 0 where
     pub sized : Sized w
     pub form : (p : ℕ) → p < many → Form p (at w p)
 
-  -- pages w and a log of c and l between two units
-  pub record Settled (w : Pages) (c : Check) (l : List Rec) : Type 0 where
+  -- pages w and a log of c and l between two units; o are the pages at the check record
+  pub record Settled (o w : Pages) (c : Check) (l : List Rec) : Type 0 where
     pub formed : Formed w
     pub shape : Shape c l
     pub low : (p : ℕ) → p < many → stamp (at w p) ≤ last F c l
-    pub fine : Fine w
-    pub complete : left c l ≡ 0
+    pub fine : Fine o l w
+    pub complete : left c w l ≡ 0
 
-  -- from pages o and a log of the check record c alone, begin and step calls lead to pages w and records l
+  -- from pages o and a log of the check record c alone, begin and step calls and rewritings lead to pages w and records l
   pub data Uncut (o : Pages) (c : Check) : (w : Pages) (l : List Rec) → Type 0 where
     start : Uncut o c o []
     begin : {w w′ : Pages} {l : List Rec} {r : Rec}
-        → Uncut o c w l → left c l ≡ 0 → Begins c w l r → apply (last F c l + 1) r w ≡ some w′
+        → Uncut o c w l → left c w l ≡ 0 → Begins c w l r → apply (last F c l + 1) r w ≡ some w′
         → Uncut o c w′ (l ++ (r ∷ []))
     step : {w w′ : Pages} {l : List Rec} {r : Rec} {k : ℕ}
-        → Uncut o c w l → left c l ≡ suc k → next c w l ≡ some r → apply (last F c l + 1) r w ≡ some w′
+        → Uncut o c w l → left c w l ≡ suc k → next c w l ≡ some r → apply (last F c l + 1) r w ≡ some w′
         → Uncut o c w′ (l ++ (r ∷ []))
+    event : {w w′ : Pages} {l : List Rec}
+        → Uncut o c w l → Event c w l w′
+        → Uncut o c w′ l
 
   -- calls and cuts lead to work pages x (none: lost by a cut), store pages s and a log of the check record c and the records l, the
   -- first f of which are forced; o are the pages as they were when c was written. A refused call changes nothing, so it has no rule.
-  -- After a cut only recovery can follow. A cut within a call is one before or after it; within recovery, one after it that keeps fewer
-  -- of the records that it appended
+  -- After a cut only recovery can follow. A cut within a call is one before or after it, but for a checkpoint's (`torn`); within recovery,
+  -- one after it that keeps fewer of the records that it appended
   pub data Reached : (o : Pages) (x : Option Pages) (s : Pages) (c : Check) (l : List Rec) (f : ℕ) → Type 0 where
     start : {o : Pages} {c : Check}
-        → Settled o c []
+        → Settled o o c []
         → Reached o (some o) o c [] 0
     begin : {o w w′ s : Pages} {c : Check} {l : List Rec} {f : ℕ} {r : Rec}
-        → Reached o (some w) s c l f → left c l ≡ 0 → Begins c w l r → apply (last F c l + 1) r w ≡ some w′
+        → Reached o (some w) s c l f → left c w l ≡ 0 → Begins c w l r → apply (last F c l + 1) r w ≡ some w′
         → Reached o (some w′) s c (l ++ (r ∷ [])) f
     step : {o w w′ s : Pages} {c : Check} {l : List Rec} {f k : ℕ} {r : Rec}
-        → Reached o (some w) s c l f → left c l ≡ suc k → next c w l ≡ some r → apply (last F c l + 1) r w ≡ some w′
+        → Reached o (some w) s c l f → left c w l ≡ suc k → next c w l ≡ some r → apply (last F c l + 1) r w ≡ some w′
         → Reached o (some w′) s c (l ++ (r ∷ [])) f
     force : {o w s : Pages} {c : Check} {l : List Rec} {f : ℕ}
         → Reached o (some w) s c l f
@@ -127,9 +136,12 @@ module _ (F : Format) (M : Meaning F) where
     flush : {o w s : Pages} {c : Check} {l : List Rec} {f : ℕ} (p : ℕ)
         → Reached o (some w) s c l f → p < many → stamp (at w p) ≤ num c + f
         → Reached o (some w) (copy p w s) c l f
-    checkpoint : {o w s : Pages} {c c′ : Check} {l : List Rec} {f : ℕ}
-        → Reached o (some w) s c l f → left c l ≡ 0 → w ≡ s → Checks c l c′
-        → Reached w (some w) s c′ [] 0
+    checkpoint : {o w w′ s s′ : Pages} {c c′ : Check} {l : List Rec} {f : ℕ}
+        → Reached o (some w) s c l f → left c w l ≡ 0 → w ≡ s → Checks c w s l c′ w′ s′
+        → Reached w′ (some w′) s′ c′ [] 0
+    torn : {o w s s′ : Pages} {c : Check} {l : List Rec} {f : ℕ}
+        → Reached o (some w) s c l f → left c w l ≡ 0 → w ≡ s → Tears c s l s′
+        → Reached o none s′ c l f
     cut : {o s : Pages} {x : Option Pages} {c : Check} {l : List Rec} {f : ℕ} (m : ℕ)
         → Reached o x s c l f → f ≤ m → m ≤ length l
         → Reached o none s c (take m l) f
@@ -139,6 +151,7 @@ module _ (F : Format) (M : Meaning F) where
 
   -- recovery over store pages s and a log of c and l gives none of the refusals 2 to 8, and leaves what an uncut run would have left
   pub record Recovers (o s : Pages) (c : Check) (l : List Rec) : Type 0 where
+    pub found : Pages  -- the log repeated, the open unit not yet finished
     pub work : Pages
     pub rest : List Rec
     -- 2, 3, 4
@@ -148,9 +161,9 @@ module _ (F : Format) (M : Meaning F) where
     -- 5, 6, 7
     pub accepted : recover F c s l ≡ some (work, l ++ rest)
     -- 8: the tree is fine; and no unit is left open
-    pub settled : Settled work c (l ++ rest)
+    pub settled : Settled o work c (l ++ rest)
     -- the count that recovery returns
-    pub appended : length rest ≡ left c l
-    -- pages and log are those of a run without cuts, namely what the records give over o
+    pub appended : length rest ≡ left c found l
+    -- pages and log are those of a run without cuts, before finishing and after it
+    pub before : Uncut o c found l
     pub uncut : Uncut o c work (l ++ rest)
-    pub replayed : run apply (num c + 1) (l ++ rest) o ≡ some work

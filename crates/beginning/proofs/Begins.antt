@@ -14,7 +14,7 @@ use Rattle.field.proofs.Test.{bind-some, when-some, both-intro, both-true, both
 use Rattle.page.specs.Pages.{pages, allFormed}
 use Rattle.log.specs.Record.{Begin, LB, lengthOf, kindOf, carried, size, encode}
 use Rattle.log.specs.Plan.{plan}
-use Rattle.log.specs.Log.{State, Log, readLog, atEnd}
+use Rattle.log.specs.Log.{State, after, Log, readLog, atEnd}
 use Rattle.log.specs.Scan.{shown, scanned}
 use Rattle.log.specs.Table.{kinds, kindAt}
 use Rattle.log.specs.Write.{beginOf}
@@ -26,7 +26,7 @@ use Rattle.unit.specs.Choice.{compactUnit, orderUnit}
 use Rattle.unit.specs.Chosen.{Picks}
 use Rattle.unit.specs.Next.{room}
 use Rattle.unit.specs.declared.choice.Choice.{Choice}
-use Rattle.store.specs.Calls.{Lent, lent, Left, left, refused, twoSized, known, begun, beginWith, beginCompact, beginOrder}
+use Rattle.store.specs.Calls.{Lent, lent, Left, left, refused, twoSized, known, stepped, begun, beginWith, beginCompact, beginOrder}
 use Rattle.beginning.specs.Begins.{unready, recordOf}
 use Rattle.store.specs.Knows.{knows}
 use Rattle.store.proofs.Chain.{two-no-work, two-no-log, two-sized}
@@ -151,7 +151,7 @@ module _ (d : Lent) (s : State) (c : Choice) where
 
       pub begun-begins : s .unit < 4294967295
           → begun d s lb ≡ left 0 [] (lent (s .at + 44) (d .forced) (d .work) (d .store) (put (s .at) (encode (s .number + 1) (LB lb)) (d .log)) (d .bytes))
-      unfolding begun size lengthOf kindOf carried recordOf beginOf
+      unfolding begun stepped after size lengthOf kindOf carried recordOf beginOf
       begun-begins u =
           need-true _ (refused 0 6 d) _ fits
           ∙ need-true _ (refused 0 7 d) _ (both-intro _ _ counts (le-leb (s .unit + 1) most4 (omega arith)))

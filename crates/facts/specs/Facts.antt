@@ -19,7 +19,7 @@ use Rattle.tree.specs.Tree.{Leaf}
 use Rattle.tree.specs.Answer.{lastNotAbove, countWritten}
 use Rattle.tree.specs.Layout.{layout}
 use Rattle.unit.specs.Choice.{group}
-use Rattle.unit.specs.Next.{target}
+use Rattle.unit.specs.Next.{targets}
 use Rattle.rows.specs.Rows.{four, two, recs, en, pg}
 
 -- a base page of one entry, with the entry's second mark byte
@@ -91,7 +91,7 @@ groupFull = eqb (length (group 4 (leafOn 8) (leafOn 9 ∷ []))) 2
 
 -- an LO changes its page, an LB changes none
 unfoldable pub beginChangesNone : Bool
-beginChangesNone = both (there (target (LO 9 8 []))) (not (there (target (LB packs))))
+beginChangesNone = both (eqb (length (targets (LO 9 8 []))) 1) (eqb (length (targets (LB packs))) 0)
 
 -- the last entry that isn't above the key may be equal to it
 unfoldable pub equalPasses : Bool

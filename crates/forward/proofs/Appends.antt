@@ -28,10 +28,11 @@ use Rattle.log.specs.declared.scan.Walk.{Walk}
 use Rattle.log.proofs.Puts.{encode-in}
 use Rattle.log.proofs.Laid.{Sourced}
 use Rattle.log.proofs.Toward.{toward-source}
-use Rattle.unit.specs.Next.{target, changedAt, apply, targetOf, pageOf, lowestTo, skipped, nextRec, stepSize, room}
+use Rattle.unit.specs.Next.{targets, apply, targetOf, pageOf, lowestTo, skipped, nextRec, stepSize, room}
 use Rattle.unit.specs.Made.{keyIn, Did}
 use Rattle.unit.specs.declared.entry.Lowest.{Lowest}
 use Rattle.unit.specs.declared.entry.Lowest.the-variants.{Nothing, Key}
+use Rattle.unit.proofs.Pagewise.{apply-none}
 use Rattle.unit.proofs.Applied.{out-own, can-page}
 use Rattle.store.specs.Calls.{Went, stopped, went, didOf, todoOf, append}
 use Rattle.unit.specs.Again.{nextStep}
@@ -365,8 +366,8 @@ module _ (work : List ℕ) {l : List ℕ} {w : Walk} (s : Stands l w) (unit : �
   close-record = refl
 
   close-made : apply (w .number .0 + 1) (LE unit) work ≡ some work
-  unfolding apply target changedAt
-  close-made = refl
+  unfolding targets
+  close-made = apply-none (w .number .0 + 1) (LE unit) work refl
 
   module _ (t : ℕ) (g : t ≡ tested (w .at + room work (toCome l w)) (w .number .0 + 1)) where
     pub close-stopped : (t ≡ 0 → ⊥) → Goes (appendNext work l) work l t work l

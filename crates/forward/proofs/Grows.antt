@@ -224,5 +224,5 @@ append-grows g x xs w l s′ w′ l′ n bw bl e t a =
       work = apply-bytes (s .number + 1) r w w′ (st .rows) bw (k .applied);
       log = subst Bytes (sym (k .written)) (bytes-grown l s r bl f);
       long = ap length (k .written) ∙ length-grown l s r f (omega (arith, few));
-      form = λ i. apply-form (s .number + 1) r w w′ st i (k .applied);
+      form = λ i. apply-form (s .number + 1) r st w w′ i (k .applied);
     }

@@ -16,7 +16,8 @@ use Rattle.tree.specs.Tree.{keysKept, wellFormed, leafAt, leavesUnder, leavesBe
 use Rattle.tree.specs.Answer.{lastNotAbove, recordWith, readable, inLeaf, down, lookUp, between, roomFor, inBounds, written, countWritten, moreRemain}
 use Rattle.tree.specs.Layout.{groups, entriesFrom, fromZero, fresh, filled, leafGroups, baseGroups, layout}
 use Rattle.unit.specs.Choice.{fillOf, exceeds, joining, group, lowestEmpty, compactOf, larger, chooseCompact, compactUnit, place, baseOf, oneOrTwo, moveOf, swapOf, putInOrder, chooseOrder, orderUnit}
-use Rattle.unit.specs.Next.{target, change, changedAt, apply, repeat, repeatAll, targetOf, pageOf, keyBefore, isOther, lowestTo, skipped, nextRec, stepSize, room}
+use Rattle.unit.specs.Next.{targets, change, changeAgain, changedAt, apply, repeat, repeatAll}
+use Rattle.unit.specs.Next.{targetOf, pageOf, keyBefore, isOther, lowestTo, skipped, nextRec, stepSize, room}
 use Rattle.store.specs.Calls.{refused, pagesSized, logSized, threeSized, twoSized, known, newLog, build, andThen, didOf, todoOf, append, formedAt}
 use Rattle.store.specs.Calls.{stepWith, stepped, step, zeroed, noneNewer, finish, recovered, recover, begun, beginWith, beginCompact, beginOrder}
 use Rattle.store.specs.Calls.{flush, force, checkpointed, checkpoint, answered, find, list}
@@ -31,7 +32,7 @@ unfolding both all pick need given when bind there part put zeroes allZero same 
     baseEntries allRecords pointers pointedOnce startsAtZero headed lower keysBetween keysKept wellFormed leafAt leavesUnder leavesBelow
     leavesOf lastNotAbove recordWith readable inLeaf down lookUp between roomFor inBounds written countWritten moreRemain groups
     entriesFrom fromZero fresh filled leafGroups baseGroups layout fillOf exceeds joining group lowestEmpty compactOf larger chooseCompact
-    compactUnit place baseOf oneOrTwo moveOf swapOf putInOrder chooseOrder orderUnit target change changedAt apply repeat repeatAll
+    compactUnit place baseOf oneOrTwo moveOf swapOf putInOrder chooseOrder orderUnit targets change changeAgain changedAt apply repeat repeatAll
     targetOf pageOf keyBefore isOther lowestTo skipped nextRec stepSize room refused pagesSized logSized threeSized twoSized known newLog
     build andThen didOf todoOf append formedAt stepWith stepped step zeroed noneNewer finish recovered recover begun beginWith beginCompact
     beginOrder flush force checkpointed checkpoint answered find list

@@ -82,7 +82,7 @@ step-keeps d = test 0 d _ 1 _ (value 0 d _ 2 _ (λ g. value 0 d _ 10 _ (λ o. st
 
 begun-keeps : (d : Lent) (s : State) (b : Begin) → Keeps 0 d (begun d s b)
 unfolding begun
-begun-keeps d s b = test 0 d _ 6 _ (test 0 d _ 7 _ (done 0 d _ refl))
+begun-keeps d s b = test 0 d _ 6 _ (test 0 d _ 7 _ (stepped-keeps d _))
 
 begin-keeps : (d : Lent) (s : State) (choose : ℕ → List (List ℕ) → Option Begin) → Keeps 0 d (beginWith d s choose)
 unfolding beginWith

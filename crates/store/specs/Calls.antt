@@ -110,6 +110,10 @@ unfoldable pub todoOf : Option Open → List Step
 todoOf none = []
 todoOf (some o) = o .todo
 
+-- one record appended, which leaves the pages w: what is known after it, and its bytes put at the log's end
+abbrev pub logged : (s : State) → Rec → (w l : List ℕ) → Went
+logged s r w l = went (after s r) w (put (s .at) (encode (s .number + 1) r) l)
+
 -- "One step appends one record and makes its page change": tests 5, 6 and 7. The open unit's steps to come are x, then xs
 unfoldable pub append : (x : Step) (xs : List Step) → (s : State) (w l : List ℕ) → Went
 append x xs s w l =
@@ -117,7 +121,7 @@ append x xs s w l =
     given (apply (s .number + 1) r w) (stopped 5) (λ w′.
     need (leb (s .at + room w (x ∷ xs)) logLength) (stopped 6)
     (need (leb (s .number + 1) most4) (stopped 7)
-    (went (after s r) w′ (put (s .at) (encode (s .number + 1) r) l)))))
+    (logged s r w′ l))))
 
 -- reply 3 of a step: the changed page
 unfoldable pub formedAt : Option ℕ → (w : List ℕ) → Bool
@@ -175,12 +179,12 @@ recover d =
 
 -- ---- begin
 
--- "Begin is the unit's first step, the LB": tests 6 and 7, for the whole unit
+-- "Begin is the unit's first step, the LB": tests 6 and 7, for the whole unit; it changes no page
 unfoldable pub begun : Lent → (s : State) → Begin → Left
 begun d s b =
     need (leb (s .at + (size (LB b) + room (d .work) (plan b))) logLength) (refused 0 6 d)
     (need (both (leb (s .number + (1 + length (plan b))) most4) (leb (b .unit) most4)) (refused 0 7 d)
-    (left 0 [] (lent (s .at + size (LB b)) (d .forced) (d .work) (d .store) (put (s .at) (encode (s .number + 1) (LB b)) (d .log)) (d .bytes))))
+    (stepped d (logged s (LB b) (d .work) (d .log))))
 
 -- what both have in common: tests 9, 3, 8, 11, then 6 and 7. The unit is chosen for this unit number, over these pages
 unfoldable pub beginWith : Lent → (s : State) → (choose : (unit : ℕ) → List (List ℕ) → Option Begin) → Left

@@ -10,13 +10,12 @@ use mathlib.Core.Option.{some}
 use lib.Dec.{eqb}
 use lib.ListN.{length}
 use Rattle.field.specs.Bytes.{Bytes}
-use Rattle.field.proofs.Test.{bind-intro}
 use Rattle.page.specs.Page.{base, leaf, entries, records, formed}
 use Rattle.page.specs.Pages.{page, putPage}
 use Rattle.log.specs.Record.{Rec, carried, size}
 use Rattle.log.specs.Plan.{Step, takeOut, bringIn, point, close}
 use Rattle.log.specs.Valid.{Moved}
-use Rattle.unit.specs.Next.{target, change, changedAt, apply, targetOf, pageOf, nextRec, stepSize, room}
+use Rattle.unit.specs.Next.{apply, targetOf, pageOf, nextRec, stepSize, room}
 use Rattle.unit.proofs.Places.{Leafy, Basic, Keeping, no-step, one-more}
 use Rattle.tidy.specs.Tidy.{Sound, InForm}
 use Rattle.tidy.proofs.Model.{Entry, upd, State, state}
@@ -95,8 +94,3 @@ module _ (w : List ℕ) (l : ℕ → List (List ℕ)) (b : ℕ → List Entry) (
         leaves = λ q. sh .leaves q ∙ put-base-leaf p pg w (sh .sound) small long (h .1) q;
         bases = λ q. ap₂ (λ (x y : List Entry). cond (eqb q p) x y) (sym e) (sh .bases q) ∙ put-base p pg w (sh .sound) small long (h .0) (h .1) q;
       }
-
--- a record's change of its page is its change of the pages
-pub applies : (n p : ℕ) (r : Rec) (w pg : List ℕ) → target r ≡ some p → change n r (page p w) ≡ some pg → apply n r w ≡ some (putPage p pg w)
-unfolding apply changedAt
-applies n p r w pg t e = rw t (bind-intro (change n r (page p w)) (λ (q : List ℕ). some (putPage p q w)) pg e)

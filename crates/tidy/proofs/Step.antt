@@ -28,13 +28,14 @@ use Rattle.log.specs.Record.{out, lengthOf, Rec, LO, LI, LM, LE, kindOf, carrie
 use Rattle.log.specs.Plan.{Step, takeOut, bringIn, point}
 use Rattle.log.specs.Log.{taken}
 use Rattle.log.specs.Valid.{Moved}
-use Rattle.unit.specs.Next.{target, change, targetOf, pageOf, skipped, lowestTo, nextRec, stepSize, room}
+use Rattle.unit.specs.Next.{targets, change, targetOf, pageOf, skipped, lowestTo, nextRec, stepSize, room}
 use Rattle.unit.proofs.Places.{Leafy, Basic}
+use Rattle.unit.proofs.Pagewise.{applies}
 use Rattle.page.proofs.Region.{empty-formed, leaf-formed, base-formed}
 use Rattle.tidy.proofs.Model.{Entry, Ascends, full, upd, redirect, strip, lowest, state}
 use Rattle.tidy.proofs.Entries.{ent, ents, lowest-ents, lowest-has, redirect-ents, strip-ents}
 use Rattle.tidy.proofs.Pages.{sound-page, leaf-at, base-at, leaf-form, base-form, leaf-rows, base-rows, rows-empty, put-root}
-use Rattle.tidy.proofs.Shown.{Shows, AllMoved, Clear, Stepped, room-put, shows-leaf, shows-base, applies}
+use Rattle.tidy.proofs.Shown.{Shows, AllMoved, Clear, Stepped, room-put, shows-leaf, shows-base}
 
 -- ---- LO
 
@@ -63,7 +64,7 @@ module _ (n : ℕ) (did : List Rec) (xs : List Step) (w : List ℕ) (l : ℕ →
   -- an LO
   pub out-step : (p d : ℕ) → Leafy p → Clear p xs → 1 ≤ full (l p)
       → Stepped n did (takeOut p d) xs w (LO p d (l p)) (state (upd l p []) b) × Moved (l p)
-  unfolding nextRec targetOf pageOf stepSize size kindOf carried target change emptied isEmpty
+  unfolding nextRec targetOf pageOf stepSize size kindOf carried targets change emptied isEmpty
   out-step p d h c f =
       let pg : List ℕ = page p w in
       let small : p < 64 = omega (arith, h .1) in
@@ -76,7 +77,7 @@ module _ (n : ℕ) (did : List Rec) (xs : List Step) (w : List ℕ) (l : ℕ →
           now = putPage p pg′ w;
           form = sound-page p w (sh .sound) small;
           next = when-true (isLeaf pg) (LO p d (records pg)) lf ∙ ap (λ (v : List (List ℕ)). some (LO p d v)) (sym e);
-          applied = applies n p (LO p d (l p)) w pg′ refl made-so;
+          applied = applies n p (LO p d (l p)) w refl pg′ made-so;
           counted = ap (lengthOf out) (ap length e ∙ length-rows 16 pg);
           left = room-put p pg′ w (sh .sound) small (k .whole) xs c;
           shows = shows-leaf w l b sh p pg′ (k .whole) (bytes-emptied n (l p) pg pg′ made-so (bytes-page p w (sh .sound .bytes))) h
@@ -124,7 +125,7 @@ module _ (n : ℕ) (did : List Rec) (xs : List Step) (w : List ℕ) (l : ℕ →
   -- an LI
   pub in-step : (p d back : ℕ) (v : List (List ℕ)) → Leafy d → Clear d xs → AllMoved did → v ≡ taken back did → 1 ≤ full v → length (l d ++ v) ≤ 15
       → Ascends 0 (map keyOf (l d ++ v)) → Stepped n did (bringIn p d back) xs w (LI p d back v) (state (upd l d (l d ++ v)) b)
-  unfolding nextRec targetOf pageOf stepSize size kindOf carried target change appended taken
+  unfolding nextRec targetOf pageOf stepSize size kindOf carried targets change appended taken
   in-step p d back v h c am ev f short up =
       let pg : List ℕ = page d w in
       let small : d < 64 = omega (arith, h .1) in
@@ -150,7 +151,7 @@ module _ (n : ℕ) (did : List Rec) (xs : List Step) (w : List ℕ) (l : ℕ →
         now = putPage d pg′ w;
         form = sound-page d w (sh .sound) small;
         next = ap (λ (x : List (List ℕ)). some (LI p d back x)) (sym ev);
-        applied = applies n d (LI p d back v) w pg′ refl made-so;
+        applied = applies n d (LI p d back v) w refl pg′ made-so;
         counted = refl;
         left = room-put d pg′ w (sh .sound) small (k .whole) xs c;
         shows = shows-leaf w l b sh d pg′ (k .whole) (bytes-appended n v pg pg′ made-so (bytes-page d w (sh .sound .bytes)) (m .bytes)) h
@@ -183,16 +184,16 @@ module _ (n : ℕ) (did : List Rec) (xs : List Step) (w : List ℕ) (l : ℕ →
         (base-form q (page q w) (h .0) (h .1) (sound-page q w (sh .sound) (omega (arith, h .1))))
 
     -- with the page that the change made
-    modified : (new : ℕ) (pg′ : List ℕ) (es : List (List ℕ)) (v : List Entry) → change n (LM q old new k) (page q w) ≡ some pg′ → Bytes pg′
+    modified : (new : ℕ) (pg′ : List ℕ) (es : List (List ℕ)) (v : List Entry) → change n (LM q old new k) q (page q w) ≡ some pg′ → Bytes pg′
         → Changed base n es pg′ → isBase pg′ ≡ true → ents es ≡ v → Stepped n did (point q old new other) xs w (LM q old new k) (state l (upd b q v))
-    unfolding nextRec targetOf pageOf stepSize size kindOf carried target
+    unfolding nextRec targetOf pageOf stepSize size kindOf carried targets
     modified new pg′ es v made-so bytes ch ok e =
         let small : q < 64 = omega (arith, h .1) in
         record {
           now = putPage q pg′ w;
           form = sound-page q w (sh .sound) small;
           next = bind-intro (lowestTo (skipped other did) old (entries (page q w))) (λ (j : ℕ). some (LM q old new j)) k found-rows;
-          applied = applies n q (LM q old new k) w pg′ refl made-so;
+          applied = applies n q (LM q old new k) w refl pg′ made-so;
           counted = refl;
           left = room-put q pg′ w (sh .sound) small (ch .whole) xs c;
           shows = shows-base w l b sh q pg′ (ch .whole) bytes h (base-formed q pg′ (h .0) (h .1) ok) v (ap ents (ch .holds) ∙ e);

@@ -10,9 +10,9 @@ use lib.ListN.{length, take, drop, getD}
 use lib.Seq.{take-length}
 use lib.Dec.{eqb, leb}
 use borrow.Author.Tests.{leb-true, eq-eqb, ne-eqb, le-leb, lt-leb, not-true, not-false}
-use Rattle.field.specs.Test.{both, all, pick, given, when, bind, there}
+use Rattle.field.specs.Test.{both, all, pick, given, when, there}
 use Rattle.field.specs.Bytes.{part, same, le4}
-use Rattle.field.proofs.Test.{both-1, both-2, both-true, both-false, both-end, all-head, all-tail, all-one, all-true, all-false, pick-true, pick-false, when-false}
+use Rattle.field.proofs.Test.{both-1, both-2, both-true, both-false, both-end, all-head, all-tail, all-one, all-true, all-false, pick-true, pick-false}
 use Rattle.field.proofs.Part.{split}
 use Rattle.field.proofs.Same.{same-eq}
 use Rattle.page.specs.Page.{rowsOf, joined, keyOf, toPage, ascend, ascendRecords, count, rows, entries, records, isBase, isLeaf, isEmpty}
@@ -26,8 +26,9 @@ use Rattle.page.proofs.Region.{base-whole, leaf-whole}
 use Rattle.page.proofs.Changes.{leaf-takes, pick-takes, base-room, emptied-at, appended-at, redirected-at, removed-at}
 use Rattle.page.proofs.Pages.{lent-page}
 use Rattle.log.specs.Record.{LO, LI, LM}
-use Rattle.unit.specs.Next.{target, change, changedAt, apply}
+use Rattle.unit.specs.Next.{targets, change, apply}
 use Rattle.unit.specs.Made.{placeOf, Did}
+use Rattle.unit.proofs.Pagewise.{applies, apply-there}
 use Rattle.unit.proofs.Walk.{base-rows}
 use Rattle.unit.proofs.Entries.{place-facts, place-none, place-has, place-inside}
 
@@ -40,14 +41,6 @@ did-none o w e = record { said = rw e; left = rw e }
 pub did-some : (o : Option (List ℕ)) (w v x : List ℕ) → o ≡ some x → v ≡ x → Did o w true v
 unfolding there given
 did-some o w v x e h = record { said = rw e; left = rw e h }
-
-pub at-none : (p : ℕ) (f : List ℕ → Option (List ℕ)) (w : List ℕ) → f (page p w) ≡ none → changedAt (some p) f w ≡ none
-unfolding changedAt bind
-at-none p f w e = rw e
-
-pub at-some : (p : ℕ) (f : List ℕ → Option (List ℕ)) (w pg : List ℕ) → f (page p w) ≡ some pg → changedAt (some p) f w ≡ some (putPage p pg w)
-unfolding changedAt bind
-at-some p f w pg e = rw e
 
 -- where a test says whether a change can be made, and it cannot
 pub did-not : (o : Option (List ℕ)) (w : List ℕ) (z : Bool) → z ≡ there o → not z ≡ true → Did o w false w
@@ -62,22 +55,15 @@ unfolding there when
 there-when true x = refl
 there-when false x = refl
 
-there-at : (p : ℕ) (f : List ℕ → Option (List ℕ)) (w : List ℕ) → there (changedAt (some p) f w) ≡ there (f (page p w))
-unfolding changedAt
-there-at p f w = there-bind (f (page p w))
-  where
-    there-bind : (o : Option (List ℕ)) → there (bind o (λ pg. some (putPage p pg w))) ≡ there o
-    there-bind none = unfold bind there in refl
-    there-bind (some x) = unfold bind there in refl
-
 -- ---- LO
 
 -- of all records of a leaf it can always be made
 pub out-own : (w : List ℕ) (org n : ℕ) → isLeaf (page org w) ≡ true → (v : List ℕ) → v ≡ putPage org (madeEmpty n (page org w)) w
     → (dest : ℕ) → apply n (LO org dest (records (page org w))) w ≡ some v
-unfolding apply target change
+unfolding targets change
 out-own w org n h v g dest =
-    at-some org (emptied n (records (page org w))) w (madeEmpty n (page org w)) (emptied-at n (records (page org w)) (page org w) h refl) ∙ ap some (sym g)
+    applies n org (LO org dest (records (page org w))) w refl (madeEmpty n (page org w)) (emptied-at n (records (page org w)) (page org w) h refl)
+    ∙ ap some (sym g)
 
 pub not-leaf! : (z : Bool) (pg rs : List ℕ) → z ≡ isLeaf pg → not z ≡ true → false ≡ both (isLeaf pg) (same (joined (records pg)) rs)
 not-leaf! z pg rs e h = sym (both-false _ _ (sym e ∙ not-true z h))
@@ -106,16 +92,16 @@ module _ (w : List ℕ) (org n k : ℕ) (rs : List ℕ) (long : length rs ≡ 16
   out-leaf h = both-1 _ _ (sym tested ∙ not-false z h)
 
   pub out-no : not z ≡ true → (dest : ℕ) → Did (apply n (LO org dest (rowsOf 16 k rs)) w) w false w
-  unfolding apply target change emptied
-  out-no h dest = did-none _ w (at-none org (emptied n (rowsOf 16 k rs)) w (when-false _ _ (sym tested ∙ not-true z h)))
+  unfolding targets change emptied
+  out-no h dest = did-not _ w z (tested ∙ sym (apply-there n org (LO org dest (rowsOf 16 k rs)) w refl ∙ there-when _ _)) h
 
   pub out-done : not z ≡ false → (v : List ℕ) → ((dest : ℕ) → apply n (LO org dest (records (page org w))) w ≡ some v)
       → (dest : ℕ) → Did (apply n (LO org dest (rowsOf 16 k rs)) w) w true v
-  unfolding apply target change
+  unfolding targets change
   out-done h v g dest =
       let q : joined (records (page org w)) ≡ joined (rowsOf 16 k rs) = same-eq _ _ (both-2 _ _ (sym tested ∙ not-false z h)) in
       let r : emptied n (rowsOf 16 k rs) (page org w) ≡ some (madeEmpty n (page org w)) = emptied-at n (rowsOf 16 k rs) (page org w) (out-leaf h) q in
-      did-some _ w v _ (at-some org (emptied n (rowsOf 16 k rs)) w (madeEmpty n (page org w)) r)
+      did-some _ w v _ (applies n org (LO org dest (rowsOf 16 k rs)) w refl (madeEmpty n (page org w)) r)
       (sym (Option·some-injective _ v (sym (out-own w org n (out-leaf h) _ refl dest) ∙ g dest)))
 
 -- ---- LI
@@ -187,8 +173,8 @@ module _ (z : Bool) (k : ℕ) (rs pg : List ℕ) (e : z ≡ pick (isEmpty pg) tr
 
 module _ (w : List ℕ) (dest k : ℕ) (rs : List ℕ) where
   in-there : (n org back : ℕ) → there (apply n (LI org dest back (rowsOf 16 k rs)) w) ≡ test k rs (page dest w)
-  unfolding apply target change appended
-  in-there n org back = there-at dest (appended n (rowsOf 16 k rs)) w ∙ there-when _ _ ∙ rw (length-rowsOf 16 k rs)
+  unfolding targets change appended
+  in-there n org back = apply-there n dest (LI org dest back (rowsOf 16 k rs)) w refl ∙ there-when _ _ ∙ rw (length-rowsOf 16 k rs)
 
   pub in-can : (z : Bool) → z ≡ test k rs (take (256 * dest + 256 - 256 * dest) (drop (256 * dest) w))
       → (n org back : ℕ) → z ≡ there (apply n (LI org dest back (rowsOf 16 k rs)) w)
@@ -206,12 +192,13 @@ module _ (w : List ℕ) (dest k : ℕ) (rs : List ℕ) where
 
     pub in-done : (n : ℕ) (v : List ℕ) → v ≡ putPage dest (madeLonger n (rowsOf 16 k rs) (page dest w)) w → (org back : ℕ)
         → Did (apply n (LI org dest back (rowsOf 16 k rs)) w) w true v
-    unfolding apply target change
+    unfolding targets change
     in-done n v g org back =
         let m : length (records (page dest w)) + length (rowsOf 16 k rs) ≤ 15 = omega (arith, in-room, length-rows 16 (page dest w), length-rowsOf 16 k rs) in
         let f : ascendRecords (above 0 (records (page dest w))) (rowsOf 16 k rs) ≡ true = all-head _ _ (all-tail _ _ (all-tail _ _ passed)) in
         did-some _ w v _
-        (at-some dest (appended n (rowsOf 16 k rs)) w (madeLonger n (rowsOf 16 k rs) (page dest w)) (appended-at n (rowsOf 16 k rs) (page dest w) in-open m f)) g
+        (applies n dest (LI org dest back (rowsOf 16 k rs)) w refl (madeLonger n (rowsOf 16 k rs) (page dest w))
+        (appended-at n (rowsOf 16 k rs) (page dest w) in-open m f)) g
 
 -- ---- LM
 
@@ -226,8 +213,8 @@ allows-there false n key old new pg = there-when _ _ ∙ unfold all both in (rw 
 
 module _ (w : List ℕ) (base old new key : ℕ) where
   modify-there : (n : ℕ) → there (apply n (LM base old new key) w) ≡ allows (eqb new 0) key old (page base w)
-  unfolding apply target change
-  modify-there n = there-at base (λ pg. pick (eqb new 0) (removed n key old pg) (redirected n key old new pg)) w ∙ allows-there (eqb new 0) n key old new (page base w)
+  unfolding targets change
+  modify-there n = apply-there n base (LM base old new key) w refl ∙ allows-there (eqb new 0) n key old new (page base w)
 
   module _ (z : Bool) (e : z ≡ isBase (take (256 * base + 256 - 256 * base) (drop (256 * base) w))) where
     is : z ≡ isBase (page base w)
@@ -285,22 +272,20 @@ module _ (w : List ℕ) (base old new key : ℕ) where
       found = rw f (place-facts key old (entries (page base w)) at)
 
       pub modify-point : (new ≡ 0 → ⊥) → (n : ℕ) (v : List ℕ) → v ≡ putPage base (madePointing n i new (page base w)) w → Did (apply n (LM base old new key) w) w true v
-      unfolding apply target change
+      unfolding targets change
       modify-point h n v d =
           let r : redirected n key old new (page base w) ≡ some (madePointing n i new (page base w)) =
           rw (← (found .0), ← (found .1)) (redirected-at n i (page base w) modify-base modify-inside new) in
           did-some _ w v _
-          (at-some base (λ pg. pick (eqb new 0) (removed n key old pg) (redirected n key old new pg)) w (madePointing n i new (page base w))
-          (pick-false (eqb new 0) _ _ (ne-eqb new 0 h) ∙ r)) d
+          (applies n base (LM base old new key) w refl (madePointing n i new (page base w)) (pick-false (eqb new 0) _ _ (ne-eqb new 0 h) ∙ r)) d
 
       pub modify-remove : new ≡ 0 → (n : ℕ) (v : List ℕ) → v ≡ putPage base (madeShorter n i (page base w)) w → Did (apply n (LM base old new key) w) w true v
-      unfolding apply target change
+      unfolding targets change
       modify-remove h n v d =
           let r : removed n key old (page base w) ≡ some (madeShorter n i (page base w)) =
           rw (← (found .0), ← (found .1)) (removed-at n i (page base w) modify-base modify-inside (modify-others h)) in
           did-some _ w v _
-          (at-some base (λ pg. pick (eqb new 0) (removed n key old pg) (redirected n key old new pg)) w (madeShorter n i (page base w))
-          (pick-true (eqb new 0) _ _ (eq-eqb new 0 h) ∙ r)) d
+          (applies n base (LM base old new key) w refl (madeShorter n i (page base w)) (pick-true (eqb new 0) _ _ (eq-eqb new 0 h) ∙ r)) d
 
 -- the place of an entry, as the code reads it off the lent page
 pub entry-place! : (w : List ℕ) (base old key c i : ℕ) → c ≡ count (page base w)

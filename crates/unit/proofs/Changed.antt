@@ -1,4 +1,4 @@
--- What a record leaves of the page that it changes: a page of 256 bytes, in form where the record stands in a log in form, stamped with
+-- What a record leaves of a page that it changes: a page of 256 bytes, in form where the record stands in a log in form, stamped with
 -- the record's number. Assumes nothing.
 use Prim.Native.Nat.{ℕ, _-_, _≤_, _<_}
 use native.Mathlib.Omega.{arith}
@@ -6,23 +6,23 @@ use mathlib.Core.Path.{_≡_, sym, _∙_}
 use mathlib.Core.Logic.{_⊎_, ⊎-elim}
 use mathlib.Core.Bool.{Bool, true, false}
 use mathlib.Core.List.{List, []}
-use mathlib.Core.Option.{Option, some, none}
+use mathlib.Core.Option.{some}
 use lib.ListN.{length}
 use lib.Dec.{eqb}
 use borrow.Author.Tests.{eq-eqb, ne-eqb}
 use Rattle.field.specs.Test.{pick}
 use Rattle.field.specs.Bytes.{Bytes}
-use Rattle.field.proofs.Test.{pick-true, pick-false, bind-some}
+use Rattle.field.proofs.Test.{pick-true, pick-false}
 use Rattle.page.specs.Page.{number, base, leaf, empty, isBase, isLeaf, isEmpty, formed}
 use Rattle.page.specs.Change.{redirected, removed}
-use Rattle.page.specs.Pages.{page, putPage}
 use Rattle.page.proofs.Kept.{Changed, emptied-kept, appended-kept, redirected-kept, removed-kept, bytes-emptied, bytes-appended, bytes-redirected, bytes-removed}
 use Rattle.page.proofs.Region.{empty-formed, base-formed, leaf-formed}
-use Rattle.page.proofs.Pages.{bytes-page, bytes-putPage}
 use Rattle.log.specs.Record.{Rec, LB, LO, LI, LM, LE}
+use Rattle.log.specs.Log.{listed}
 use Rattle.log.specs.Valid.{Moved}
-use Rattle.unit.specs.Next.{target, change, changedAt, apply}
+use Rattle.unit.specs.Next.{targets, change, changeAgain, apply, repeat}
 use Rattle.unit.proofs.Places.{Leafy, Basic, RecKeeps}
+use Rattle.unit.proofs.Pagewise.{listed-none, listed-one, Once, once-one, changed-bytes, again-cases}
 
 -- the rows of an LI are those that an LO took out
 abbrev pub RowsOf : Rec → Type 0
@@ -62,32 +62,26 @@ modify-left n b key old new pg pg′ h to small e =
     (sym (pick-false (eqb new 0) (removed n key old pg) (redirected n key old new pg) (ne-eqb new 0 (λ z. omega (arith, l .0)))) ∙ e) small (l .0) (l .1)))
     to
 
-some-eq : (a b : ℕ) → some a ≡ some b → a ≡ b
-some-eq a b e = cc
-
-some-none : (a : ℕ) → none ≡ some a → ⊥
-some-none a e = let z : _≡_ {A = ℕ} 0 1 = cc in omega arith
-
-pub change-leaves : (n p : ℕ) (r : Rec) (pg pg′ : List ℕ) → RecKeeps r → RowsOf r → n < 4294967296 → target r ≡ some p
-    → change n r pg ≡ some pg′ → Leaves n p pg′
-unfolding target change
-change-leaves n p (LB g) pg pg′ k rows small t e = absurd (some-none p t)
+pub change-leaves : (n p : ℕ) (r : Rec) (pg pg′ : List ℕ) → RecKeeps r → RowsOf r → n < 4294967296 → listed p (targets r) ≡ true
+    → change n r p pg ≡ some pg′ → Leaves n p pg′
+unfolding targets change
+change-leaves n p (LB g) pg pg′ k rows small t e = absurd (listed-none p t)
 change-leaves n p (LO org dest rs) pg pg′ k rows small t e =
-    rw (← (some-eq org p t)) (empty-left n org pg′ (omega (arith, k .0)) (emptied-kept n rs pg pg′ e small))
+    rw (listed-one p org t) (empty-left n org pg′ (omega (arith, k .0)) (emptied-kept n rs pg pg′ e small))
 change-leaves n p (LI org dest back rs) pg pg′ k rows small t e =
-    rw (← (some-eq dest p t)) (leaf-left n dest _ pg′ (k .0) (appended-kept n rs pg pg′ e small (rows .long) (rows .some-rows)))
+    rw (listed-one p dest t) (leaf-left n dest _ pg′ (k .0) (appended-kept n rs pg pg′ e small (rows .long) (rows .some-rows)))
 change-leaves n p (LM b old new key) pg pg′ k rows small t e =
-    rw (← (some-eq b p t)) (modify-left n b key old new pg pg′ (k .0) (k .1) small e)
-change-leaves n p (LE unit) pg pg′ k rows small t e = absurd (some-none p t)
+    rw (listed-one p b t) (modify-left n b key old new pg pg′ (k .0) (k .1) small e)
+change-leaves n p (LE unit) pg pg′ k rows small t e = absurd (listed-none p t)
 
--- the page that a record changes is one of the 64
-pub target-page : (p : ℕ) (r : Rec) → RecKeeps r → target r ≡ some p → p < 64
-unfolding target
-target-page p (LB g) k t = absurd (some-none p t)
-target-page p (LO org dest rs) k t = omega (arith, some-eq org p t, k .1)
-target-page p (LI org dest back rs) k t = omega (arith, some-eq dest p t, k .1)
-target-page p (LM b old new key) k t = omega (arith, some-eq b p t, k .0 .1)
-target-page p (LE unit) k t = absurd (some-none p t)
+-- the pages that a record changes are pages of the 64, each once
+pub targets-once : (r : Rec) → RecKeeps r → Once (targets r)
+unfolding targets
+targets-once (LB g) k = tt
+targets-once (LO org dest rs) k = once-one org (omega (arith, k .1))
+targets-once (LI org dest back rs) k = once-one dest (omega (arith, k .1))
+targets-once (LM b old new key) k = once-one b (omega (arith, k .0 .1))
+targets-once (LE unit) k = tt
 
 -- an LM, by whether it removes
 modify-bytes : (b : Bool) (n key old new : ℕ) (pg pg′ : List ℕ) → Bytes pg → pick b (removed n key old pg) (redirected n key old new pg) ≡ some pg′ → Bytes pg′
@@ -96,24 +90,22 @@ modify-bytes true n key old new pg pg′ h e = bytes-removed n key old pg pg′ 
 modify-bytes false n key old new pg pg′ h e = bytes-redirected n key old new pg pg′ e h
 
 -- a page of bytes stays one
-pub change-bytes : (n : ℕ) (r : Rec) (pg pg′ : List ℕ) → RowsOf r → Bytes pg → change n r pg ≡ some pg′ → Bytes pg′
+pub change-bytes : (n : ℕ) (r : Rec) (p : ℕ) (pg pg′ : List ℕ) → RowsOf r → Bytes pg → change n r p pg ≡ some pg′ → Bytes pg′
 unfolding change
-change-bytes n (LB g) pg pg′ rows h e = let q : pg ≡ pg′ = cc in rw (← q) h
-change-bytes n (LO org dest rs) pg pg′ rows h e = bytes-emptied n rs pg pg′ e h
-change-bytes n (LI org dest back rs) pg pg′ rows h e = bytes-appended n rs pg pg′ e h (rows .bytes)
-change-bytes n (LM b old new key) pg pg′ rows h e = modify-bytes (eqb new 0) n key old new pg pg′ h e
-change-bytes n (LE unit) pg pg′ rows h e = let q : pg ≡ pg′ = cc in rw (← q) h
+change-bytes n (LB g) p pg pg′ rows h e = let q : pg ≡ pg′ = cc in rw (← q) h
+change-bytes n (LO org dest rs) p pg pg′ rows h e = bytes-emptied n rs pg pg′ e h
+change-bytes n (LI org dest back rs) p pg pg′ rows h e = bytes-appended n rs pg pg′ e h (rows .bytes)
+change-bytes n (LM b old new key) p pg pg′ rows h e = modify-bytes (eqb new 0) n key old new pg pg′ h e
+change-bytes n (LE unit) p pg pg′ rows h e = let q : pg ≡ pg′ = cc in rw (← q) h
 
 -- and so do all pages
-pub at-bytes : (t : Option ℕ) (f : List ℕ → Option (List ℕ)) (w w′ : List ℕ) → ((pg pg′ : List ℕ) → Bytes pg → f pg ≡ some pg′ → Bytes pg′) → Bytes w
-    → changedAt t f w ≡ some w′ → Bytes w′
-unfolding changedAt
-at-bytes none f w w′ h b e = let q : w ≡ w′ = cc in rw (← q) b
-at-bytes (some p) f w w′ h b e =
-    let x = bind-some (f (page p w)) (λ pg. some (putPage p pg w)) w′ e in
-    let q : putPage p (x .from) w ≡ w′ = let y : some (putPage p (x .from) w) ≡ some w′ = x .gives in cc in
-    rw (← q) (bytes-putPage p (x .from) w (h (page p w) (x .from) (bytes-page p w b) (x .was)) b)
-
 pub apply-bytes : (n : ℕ) (r : Rec) (w w′ : List ℕ) → RowsOf r → Bytes w → apply n r w ≡ some w′ → Bytes w′
 unfolding apply
-apply-bytes n r w w′ rows b e = at-bytes (target r) (change n r) w w′ (λ pg pg′ h q. change-bytes n r pg pg′ rows h q) b e
+apply-bytes n r w w′ rows b e = changed-bytes (change n r) (targets r) w w′ (λ p pg pg′ h q. change-bytes n r p pg pg′ rows h q) b e
+
+pub repeat-bytes : (n : ℕ) (r : Rec) (w w′ : List ℕ) → RowsOf r → Bytes w → repeat n r w ≡ some w′ → Bytes w′
+unfolding repeat
+repeat-bytes n r w w′ rows b e =
+    changed-bytes (changeAgain n r) (targets r) w w′
+    (λ p pg pg′ h q.
+    ⊎-elim (λ (i : pg′ ≡ pg). rw i h) (λ (i : change n r p pg ≡ some pg′). change-bytes n r p pg pg′ rows h i) (again-cases n r p pg pg′ q)) b e

@@ -1,47 +1,28 @@
--- 64 pages in form stay in form: under a record of a log in form, made or repeated, and under all of a log's records repeated.
--- Assumes nothing.
+-- What a record of a log in form does to the pages, made or repeated: each changes by itself, and 64 pages in form stay in form. So they do
+-- under all of a log's records repeated. Assumes nothing.
 use Prim.Native.Nat.{ℕ, _+_, _≤_, _<_}
 use native.Mathlib.Omega.{arith}
-use mathlib.Core.Path.{_≡_, refl, subst}
-use mathlib.Core.Bool.{Bool, true, false}
+use mathlib.Core.Path.{_≡_, refl, sym, subst, _∙_}
+use mathlib.Core.Logic.{_⊎_, ⊎-elim}
+use mathlib.Core.Bool.{true}
 use mathlib.Core.List.{List, _∷_}
-use mathlib.Core.Option.{Option, some, none, Option·some-injective}
+use mathlib.Core.Option.{Option, some, Option·some-injective}
 use lib.ListN.{length}
-use lib.Dec.{leb}
-use Rattle.field.specs.Test.{pick}
 use Rattle.field.specs.Bytes.{most4}
 use Rattle.field.proofs.Test.{bind-some}
-use Rattle.page.specs.Page.{number, formed}
-use Rattle.page.specs.Pages.{page, putPage}
-use Rattle.page.proofs.Pages.{length-page, length-putPage, formed-page, formed-putPage}
+use Rattle.page.specs.Page.{formed}
+use Rattle.page.specs.Pages.{page}
+use Rattle.page.proofs.Pages.{length-page, formed-page, formed-pages}
 use Rattle.log.specs.Record.{Rec}
 use Rattle.log.specs.Plan.{Step}
-use Rattle.log.specs.Log.{Open, State, first, after, afterAll, Log}
+use Rattle.log.specs.Log.{Open, State, first, after, afterAll, listed, Log}
 use Rattle.log.specs.Valid.{Does, does-out, does-in, does-point, does-close, Follows, begins, goes, Fits, Valid, nil, cons, Good}
 use Rattle.log.proofs.Sound.{Sound, Waits, Awaits, waits-open, awaits-moved, sound-first, sound-after}
 use Rattle.tree.specs.Walk.{InForm}
-use Rattle.unit.specs.Next.{target, change, changedAt, apply, repeat, repeatAll}
+use Rattle.unit.specs.Next.{targets, change, changeAgain, atPage, apply, repeat, repeatAll}
 use Rattle.unit.proofs.Places.{RecKeeps, OpenKeeps, follows-keeps, open-keeps}
-use Rattle.unit.proofs.Changed.{RowsOf, Leaves, change-leaves, target-page}
-
--- ---- one page of them
-
--- a page in form, of 256 bytes
-pub record Whole (p : ℕ) (pg : List ℕ) : Type 0 where
-  pub form : formed p pg ≡ true
-  pub long : length pg ≡ 256
-
-at-form : (t : Option ℕ) (f : List ℕ → Option (List ℕ)) (w w′ : List ℕ) → ((p : ℕ) → t ≡ some p → p < 64)
-    → ((p : ℕ) (pg′ : List ℕ) → t ≡ some p → f (page p w) ≡ some pg′ → Whole p pg′) → InForm w → changedAt t f w ≡ some w′ → InForm w′
-unfolding changedAt
-at-form none f w w′ small left h e = subst InForm (Option·some-injective w w′ e) h
-at-form (some p) f w w′ small left h e =
-    let x = bind-some (f (page p w)) (λ pg. some (putPage p pg w)) w′ e in
-    let k : Whole p (x .from) = left p (x .from) refl (x .was) in
-    subst InForm (Option·some-injective (putPage p (x .from) w) w′ (x .gives)) (record {
-      whole = length-putPage p w (h .whole) (small p refl) (x .from) (k .long);
-      forms = formed-putPage p (x .from) w (h .whole) (small p refl) (k .long) (k .form) (h .forms);
-    })
+use Rattle.unit.proofs.Pagewise.{Once, once-small, at-listed, at-cases, Makes, Pagewise, changed-pages, changes-pages, again-cases}
+use Rattle.unit.proofs.Changed.{RowsOf, Leaves, change-leaves, targets-once}
 
 -- ---- a record
 
@@ -51,31 +32,61 @@ pub record Stands (n : ℕ) (r : Rec) : Type 0 where
   pub keeps : RecKeeps r
   pub rows : RowsOf r
 
-left-whole : (n p : ℕ) (r : Rec) (pg pg′ : List ℕ) → Stands n r → target r ≡ some p → change n r pg ≡ some pg′ → Whole p pg′
-left-whole n p r pg pg′ s t e =
-    let few : n < 4294967296 = omega (arith, s .small) in
-    let k : Leaves n p pg′ = change-leaves n p r pg pg′ (s .keeps) (s .rows) few t e in
-    record { form = k .form; long = k .whole }
+-- pages that are changed page by page stay in form where each of these is left in form
+pagewise-form : (f : (p : ℕ) → List ℕ → Option (List ℕ)) (ps w w′ : List ℕ) → Pagewise f ps w w′
+    → ((p : ℕ) (pg′ : List ℕ) → p < 64 → listed p ps ≡ true → f p (page p w) ≡ some pg′ → formed p pg′ ≡ true) → InForm w → InForm w′
+pagewise-form f ps w w′ x left h =
+    record {
+      whole = x .whole;
+      forms = formed-pages w′ (λ p k.
+          ⊎-elim (λ (i : page p w′ ≡ page p w). rw i (formed-page p w (h .forms) k))
+          (λ (i : (listed p ps ≡ true) × (f p (page p w) ≡ some (page p w′))). left p (page p w′) k (i .0) (i .1))
+          (at-cases ps f p (page p w) (page p w′) (x .each p k)));
+    }
 
-pub apply-form : (n : ℕ) (r : Rec) (w w′ : List ℕ) → Stands n r → InForm w → apply n r w ≡ some w′ → InForm w′
-unfolding apply
-apply-form n r w w′ s h e =
-    at-form (target r) (change n r) w w′ (λ p t. target-page p r (s .keeps) t) (λ p pg′ t q. left-whole n p r (page p w) pg′ s t q) h e
+module _ (n : ℕ) (r : Rec) (s : Stands n r) where
+  -- what it leaves of a page that it changes
+  pub leaves : (p : ℕ) (pg pg′ : List ℕ) → listed p (targets r) ≡ true → change n r p pg ≡ some pg′ → Leaves n p pg′
+  leaves p pg pg′ i e = change-leaves n p r pg pg′ (s .keeps) (s .rows) (omega (arith, s .small)) i e
 
--- the page as it was, or changed
-again-whole : (b : Bool) (n p : ℕ) (r : Rec) (pg pg′ : List ℕ) → Stands n r → target r ≡ some p → Whole p pg → pick b (some pg) (change n r pg) ≡ some pg′ → Whole p pg′
-unfolding pick
-again-whole true n p r pg pg′ s t h e = subst (Whole p) (Option·some-injective pg pg′ e) h
-again-whole false n p r pg pg′ s t h e = left-whole n p r pg pg′ s t e
+  once : Once (targets r)
+  once = targets-once r (s .keeps)
 
-pub repeat-form : (n : ℕ) (r : Rec) (w w′ : List ℕ) → Stands n r → InForm w → repeat n r w ≡ some w′ → InForm w′
-unfolding repeat
-repeat-form n r w w′ s h e =
-    at-form (target r) _ w w′ (λ p t. target-page p r (s .keeps) t)
-    (λ p pg′ t q.
-    let small : p < 64 = target-page p r (s .keeps) t in
-    let old : Whole p (page p w) = record { form = formed-page p w (h .forms) small; long = length-page p w (h .whole) small } in
-    again-whole (leb n (number (page p w))) n p r (page p w) pg′ s t old q) h e
+  -- what it does to the pages, made and repeated: each by itself
+  module _ (w : List ℕ) (whole : length w ≡ 16384) where
+    again-makes : Makes (changeAgain n r) (targets r) w
+    again-makes p pg i e =
+        ⊎-elim (λ (q : pg ≡ page p w). rw q (length-page p w whole (once-small (targets r) p once i)))
+        (λ (q : change n r p (page p w) ≡ some pg). leaves p (page p w) pg i q .whole)
+        (again-cases n r p (page p w) pg e)
+
+    pub apply-pages : (w′ : List ℕ) → apply n r w ≡ some w′ → Pagewise (change n r) (targets r) w w′
+    unfolding apply
+    apply-pages w′ e = changed-pages (change n r) (targets r) once w w′ whole (λ p pg i q. leaves p (page p w) pg i q .whole) e
+
+    pub repeat-pages : (w′ : List ℕ) → repeat n r w ≡ some w′ → Pagewise (changeAgain n r) (targets r) w w′
+    unfolding repeat
+    repeat-pages w′ e = changed-pages (changeAgain n r) (targets r) once w w′ whole again-makes e
+
+    -- it can be repeated where it can on each page
+    pub repeats-pages : ((p : ℕ) → p < 64 → (pg : List ℕ) × (atPage (targets r) (changeAgain n r) p (page p w) ≡ some pg))
+        → (w′ : List ℕ) × (repeat n r w ≡ some w′)
+    unfolding repeat
+    repeats-pages g =
+        changes-pages (changeAgain n r) (targets r) once w whole again-makes
+        (λ p i. let x = g p (once-small (targets r) p once i) in (x .0, sym (at-listed (targets r) (changeAgain n r) p (page p w) i) ∙ x .1))
+
+  -- pages in form stay in form
+  pub apply-form : (w w′ : List ℕ) → InForm w → apply n r w ≡ some w′ → InForm w′
+  apply-form w w′ h e =
+      pagewise-form (change n r) (targets r) w w′ (apply-pages w (h .whole) w′ e) (λ p pg′ k i q. leaves p (page p w) pg′ i q .form) h
+
+  pub repeat-form : (w w′ : List ℕ) → InForm w → repeat n r w ≡ some w′ → InForm w′
+  repeat-form w w′ h e =
+      pagewise-form (changeAgain n r) (targets r) w w′ (repeat-pages w (h .whole) w′ e)
+      (λ p pg′ k i q.
+      ⊎-elim (λ (z : pg′ ≡ page p w). rw z (formed-page p w (h .forms) k)) (λ (z : change n r p (page p w) ≡ some pg′). leaves p (page p w) pg′ i z .form)
+      (again-cases n r p (page p w) pg′ q)) h
 
 -- ---- the records of a log in form
 
@@ -100,7 +111,7 @@ repeats-form n w w′ q h k nil f e = subst InForm (Option·some-injective w w�
 repeats-form {s} n w w′ q h k (cons {r = r} {rs = rs} fit v) f e =
     let x = bind-some (repeat n r w) (repeatAll (n + 1) rs) w′ e in
     let st : Stands n r = rw q (fits-stands h k fit) in
-    repeats-form (n + 1) (x .from) w′ (rw q) (sound-after h fit) (open-keeps (cons fit nil) k) v (repeat-form n r w (x .from) st f (x .was)) (x .gives)
+    repeats-form (n + 1) (x .from) w′ (rw q) (sound-after h fit) (open-keeps (cons fit nil) k) v (repeat-form n r st w (x .from) f (x .was)) (x .gives)
 
 pub log-form : (g : Log) (w w′ : List ℕ) → Good g → InForm w → repeatAll (g .top .number + 1) (g .recs) w ≡ some w′ → InForm w′
 unfolding first

@@ -1,7 +1,8 @@
--- Laws about units: where their steps change pages, and what a record leaves of its page; how the leaves are walked in key order, and the
--- choice of an order unit and of a compact unit; what remains of a unit; the entry that an LM takes; what the code makes of one record, and of
--- a whole log repeated; that pages in form stay in form.
+-- Laws about units: where their steps change pages, what a record makes of all pages, page by page, and what it leaves of those that it
+-- changes; how the leaves are walked in key order, and the choice of an order unit and of a compact unit; what remains of a unit; the entry
+-- that an LM takes; what the code makes of one record, and of a whole log repeated; that pages in form stay in form.
 pub mod Places
+pub mod Pagewise
 pub mod Changed
 pub mod Walk
 pub mod Strays

@@ -6,7 +6,6 @@ use native.Mathlib.Omega.{arith}
 use mathlib.Core.Path.{_≡_, refl, sym, ap, _∙_, subst}
 use mathlib.Core.Bool.{Bool, true}
 use mathlib.Core.List.{List}
-use mathlib.Core.Option.{some}
 use lib.ListN.{length, take, drop, length-take, length-drop, take-append-drop}
 use lib.Seq.{drop-drop}
 use Rattle.field.specs.Bytes.{le2, le4}
@@ -20,11 +19,12 @@ use Rattle.log.specs.Source.{sourceAt, sourceRows, sourced, recordAt}
 use Rattle.log.specs.declared.scan.Walk.{Walk}
 use Rattle.log.specs.declared.steps.Planned.{Planned}
 use Rattle.log.specs.declared.steps.Planned.the-variants.{Out, In, Point, Close}
-use Rattle.unit.specs.Next.{target, changedAt, repeat}
+use Rattle.unit.specs.Next.{targets, repeat}
 use Rattle.unit.specs.Made.{Did}
 use Rattle.field.specs.declared.PageNo.{PageNo}
 use Rattle.field.specs.declared.UnitNo.{UnitNo}
 use Rattle.unit.specs.Again.{OutReads, InReads, PointReads, Reads}
+use Rattle.unit.proofs.Pagewise.{repeat-none}
 use Rattle.unit.proofs.Applied.{did-some}
 
 -- k rows that the code lends
@@ -74,11 +74,6 @@ module _ (n : ℕ) (l : List ℕ) (w : Walk) (v v′ : List ℕ) (r : Bool) wher
 
 -- ---- by the kind of the step that the code has
 
--- an LE repeated
-pub end-repeats : (n unit : ℕ) (w : List ℕ) → repeat n (LE unit) w ≡ some w
-unfolding repeat target changedAt
-end-repeats n unit w = refl
-
 module _ (l : List ℕ) (w : Walk) (p : Planned) (h : Reads l w (stepOf p)) where
   pub out-reads : (org dest : PageNo) → p ≡ Out org dest → OutReads l w (org .0)
   unfolding stepOf
@@ -110,5 +105,5 @@ module _ (n : ℕ) (l : List ℕ) (w : Walk) (p : Planned) (v v′ : List ℕ) (
   step-point! base old new other e d = rw e (d other)
 
 pub step-close! : (n : ℕ) (l : List ℕ) (w : Walk) (p : Planned) (v : List ℕ) (unit : UnitNo) → p ≡ Close unit → Did (repeat n (recordAt l w (stepOf p)) v) v true v
-unfolding stepOf recordAt
-step-close! n l w p v unit e = rw e (did-some _ v v v (end-repeats n (unit .0) v) refl)
+unfolding stepOf recordAt targets
+step-close! n l w p v unit e = rw e (did-some _ v v v (repeat-none n (LE (unit .0)) v refl) refl)

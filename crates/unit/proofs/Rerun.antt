@@ -26,10 +26,11 @@ use Rattle.log.proofs.Laid.{Sourced}
 use Rattle.log.proofs.Toward.{Toward, toward-first, toward-comes, toward-over, toward-ready, turned-ok, toward-turned, toward-room, toward-fits}
 use Rattle.log.proofs.Toward.{toward-rest, toward-less, Comes, topped-read, shown-opened, shown-shut, Next, toward-next, toward-source, Takes}
 use Rattle.log.proofs.Toward.{toward-begins, toward-record, toward-takes}
-use Rattle.unit.specs.Next.{target, changedAt, repeat, repeatAll}
+use Rattle.unit.specs.Next.{targets, repeat, repeatAll}
 use Rattle.unit.specs.Made.{Did}
 use Rattle.unit.specs.Again.{Reads, nextStep, Ahead, redone, repeated, Repeated}
 use Rattle.unit.proofs.Places.{StepKeeps, Keeping, no-step, one-more, plan-keeps}
+use Rattle.unit.proofs.Pagewise.{repeat-none}
 use Rattle.unit.proofs.Applied.{did-some}
 
 -- ---- one record, by numbers
@@ -95,8 +96,8 @@ module _ {l : List ℕ} {s : State} {r : Rec} {rs : List Rec} {o : Open} (t : To
   reads-of (close unit) xs e k h = tt
 
 begin-repeats : (n : ℕ) (g : Begin) (v : List ℕ) → repeat n (LB g) v ≡ some v
-unfolding repeat target changedAt
-begin-repeats n g v = refl
+unfolding targets
+begin-repeats n g v = repeat-none n (LB g) v refl
 
 shown-number : (s : State) → (shown s) .number .0 ≡ s .number
 unfolding shown

@@ -11,38 +11,46 @@ use Rattle.page.specs.Change.{emptied, appended, redirected, removed}
 use Rattle.page.specs.Pages.{page, putPage}
 use Rattle.log.specs.Record.{out, into, modify, end, lengthOf, Rec, LB, LO, LI, LM, LE}
 use Rattle.log.specs.Plan.{Step, takeOut, bringIn, point, close}
-use Rattle.log.specs.Log.{taken}
+use Rattle.log.specs.Log.{listed, taken}
 
 -- ---- what a record does
 
--- the page it changes: LO's org, LI's dest, LM's base; none for LB and LE
-unfoldable pub target : Rec → Option ℕ
-target (LB g) = none
-target (LO org dest rs) = some org
-target (LI org dest back rs) = some dest
-target (LM base old new key) = some base
-target (LE unit) = none
+-- the pages that it changes, each once: LO's org, LI's dest, LM's base; none for LB and LE
+unfoldable pub targets : Rec → List ℕ
+targets (LB g) = []
+targets (LO org dest rs) = org ∷ []
+targets (LI org dest back rs) = dest ∷ []
+targets (LM base old new key) = base ∷ []
+targets (LE unit) = []
 
--- what the record numbered n does to that page; none is reply 5
-unfoldable pub change : (n : ℕ) → Rec → List ℕ → Option (List ℕ)
-change n (LB g) pg = some pg
-change n (LO org dest rs) pg = emptied n rs pg
-change n (LI org dest back rs) pg = appended n rs pg
-change n (LM base old new key) pg = pick (eqb new 0) (removed n key old pg) (redirected n key old new pg)
-change n (LE unit) pg = some pg
+-- what the record numbered n does to page p of these; none is reply 5
+unfoldable pub change : (n : ℕ) → Rec → (p : ℕ) → List ℕ → Option (List ℕ)
+change n (LB g) p pg = some pg
+change n (LO org dest rs) p pg = emptied n rs pg
+change n (LI org dest back rs) p pg = appended n rs pg
+change n (LM base old new key) p pg = pick (eqb new 0) (removed n key old pg) (redirected n key old new pg)
+change n (LE unit) p pg = some pg
 
--- the page of w that a record or a step changes, replaced; w itself where there is none
-unfoldable pub changedAt : Option ℕ → (f : List ℕ → Option (List ℕ)) → (w : List ℕ) → Option (List ℕ)
-changedAt none f w = some w
-changedAt (some p) f w = bind (f (page p w)) (λ pg. some (putPage p pg w))
+-- the same repeated: "repeats each record whose number exceeds the page's"
+unfoldable pub changeAgain : (n : ℕ) → Rec → (p : ℕ) → List ℕ → Option (List ℕ)
+changeAgain n r p pg = pick (leb n (number pg)) (some pg) (change n r p pg)
+
+-- these pages of w changed one after the other: each becomes what f makes of it
+unfoldable pub changedAt : (ps : List ℕ) → (f : (p : ℕ) → List ℕ → Option (List ℕ)) → (w : List ℕ) → Option (List ℕ)
+changedAt [] f w = some w
+changedAt (p ∷ ps) f w = bind (f p (page p w)) (λ pg. changedAt ps f (putPage p pg w))
+
+-- what becomes of one page, whatever its number p: what f makes of it where it is one of these, else it stays
+unfoldable pub atPage : (ps : List ℕ) → (f : (p : ℕ) → List ℕ → Option (List ℕ)) → (p : ℕ) → List ℕ → Option (List ℕ)
+atPage ps f p pg = pick (listed p ps) (f p pg) (some pg)
 
 -- the record numbered n applied to the work pages; none is reply 5
 unfoldable pub apply : (n : ℕ) → Rec → (w : List ℕ) → Option (List ℕ)
-apply n r w = changedAt (target r) (change n r) w
+apply n r w = changedAt (targets r) (change n r) w
 
--- "repeats each record whose number exceeds the page's"
+-- the record numbered n repeated on the pages, on each by the page's own number
 unfoldable pub repeat : (n : ℕ) → Rec → (w : List ℕ) → Option (List ℕ)
-repeat n r w = changedAt (target r) (λ pg. pick (leb n (number pg)) (some pg) (change n r pg)) w
+repeat n r w = changedAt (targets r) (changeAgain n r) w
 
 -- all these records repeated, the first numbered n
 unfoldable pub repeatAll : (n : ℕ) → List Rec → (w : List ℕ) → Option (List ℕ)

@@ -25,7 +25,8 @@ use Rattle.log.specs.Valid.{Good}
 use Rattle.log.proofs.Sound.{Waits, Awaits, waits-open, sound-atEnd}
 use Rattle.tree.specs.Answer.{Found, missing, found}
 use Rattle.unit.specs.Choice.{orderUnit}
-use Rattle.unit.specs.Next.{target, changedAt, apply, targetOf}
+use Rattle.unit.specs.Next.{targets, apply, targetOf}
+use Rattle.unit.proofs.Pagewise.{apply-none}
 use Rattle.unit.proofs.Places.{Keeping, one-more, StepKeeps, OpenKeeps, end-keeps}
 use Rattle.store.specs.Calls.{Lent, lent, Left, left, refused, logLength, Went, stopped, formedAt, stepWith, stepped, append, todoOf, begun, beginWith, checkpointed, answered}
 use Rattle.store.specs.Calls as Calls
@@ -118,8 +119,7 @@ nothing-forced = refl
 
 -- an LB changes no page
 pub apply-begin : (n : ℕ) (g : Begin) (w : List ℕ) → apply n (LB g) w ≡ some w
-unfolding apply target changedAt
-apply-begin n g w = refl
+apply-begin n g w = apply-none n (LB g) w (unfold targets in refl)
 
 module _ (U : UnitLaws store asked) {origin : List ℕ} (d : Lent) (v : Ran origin d) where
   -- between two units the work pages are a well-formed tree in form

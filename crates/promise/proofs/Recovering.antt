@@ -2,14 +2,12 @@
 use Prim.Native.Nat.{ℕ, suc, _+_, _-_, _≤_, _<_}
 use native.Mathlib.Omega.{arith}
 use mathlib.Core.Path.{_≡_, refl, ap, _∙_}
-use mathlib.Core.Bool.{Bool, true, false}
+use mathlib.Core.Bool.{true}
 use mathlib.Core.List.{List, [], _∷_, _++_}
 use mathlib.Core.Option.{some, Option·some-injective}
 use mathlib.Core.Option as Option
 use lib.ListN.{length, getD, length-append}
-use lib.Dec.{leb}
 use borrow.Author.Tests.{le-leb}
-use Rattle.field.specs.Test.{pick}
 use Rattle.field.specs.Bytes.{Bytes}
 use Rattle.field.proofs.Test.{both-intro, need-true, given-some}
 use Rattle.page.specs.Page.{number}
@@ -18,8 +16,8 @@ use Rattle.page.proofs.Pages.{length-pages, getD-pages, formed-pages}
 use Rattle.log.specs.Record.{Check, Rec}
 use Rattle.log.proofs.State.{Every, number-atEnd}
 use Rattle.log.specs.Valid.{Good}
-use Rattle.unit.specs.Next.{target, change, repeat}
-use Rattle.unit.proofs.Changed.{RowsOf, at-bytes, change-bytes}
+use Rattle.unit.specs.Next.{repeat}
+use Rattle.unit.proofs.Changed.{RowsOf, repeat-bytes}
 use Rattle.store.specs.Calls.{Lent, lent, Left, left, threeSized, refused, zeroed, noneNewer, went, recovered, todoOf}
 use Rattle.store.specs.Calls as Calls
 use Rattle.replay.specs.Store.{run, Recovers}
@@ -42,15 +40,6 @@ none-newer last w h =
     none-newer-from last (pages w) (λ i k. let small : i < 64 = omega (arith, length-pages w) in rw (getD-pages i w small) (h i small))
 
 -- ---- repeating keeps bytes
-
-pick-bytes : (b : Bool) (n : ℕ) (r : Rec) (pg pg′ : List ℕ) → RowsOf r → Bytes pg → pick b (some pg) (change n r pg) ≡ some pg′ → Bytes pg′
-unfolding pick
-pick-bytes true n r pg pg′ k h e = rw (← (Option·some-injective pg pg′ e)) h
-pick-bytes false n r pg pg′ k h e = change-bytes n r pg pg′ k h e
-
-repeat-bytes : (n : ℕ) (r : Rec) (w w′ : List ℕ) → RowsOf r → Bytes w → repeat n r w ≡ some w′ → Bytes w′
-unfolding repeat
-repeat-bytes n r w w′ k b e = at-bytes (target r) _ w w′ (λ pg pg′ h q. pick-bytes (leb n (number pg)) n r pg pg′ k h q) b e
 
 repeats-bytes : (n : ℕ) {rs : List Rec} (w w′ : List ℕ) → Every RowsOf rs → Bytes w → run repeat n rs w ≡ some w′ → Bytes w′
 unfolding run

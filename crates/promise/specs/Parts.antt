@@ -1,5 +1,5 @@
 -- The store's pages, records and units as the generic half of demand 3 asks for them (`replay`): which definitions of the calls stand for
--- what there. Nothing is defined here that a call does not use, but for what a record does to one page by its number. Assumes nothing.
+-- what there. Nothing is defined here that a call does not use. Assumes nothing.
 use Prim.Native.Nat.{ℕ, _+_, _≤_}
 use mathlib.Core.Path.{_≡_}
 use mathlib.Core.Logic.{_⊎_}
@@ -7,8 +7,8 @@ use mathlib.Core.Bool.{Bool, true}
 use mathlib.Core.List.{List, [], _∷_}
 use mathlib.Core.Option.{Option, some, none}
 use lib.ListN.{length}
-use lib.Dec.{eqb, leb}
-use Rattle.field.specs.Test.{both, pick, given, when, bind}
+use lib.Dec.{leb}
+use Rattle.field.specs.Test.{both, when, bind}
 use Rattle.field.specs.Bytes.{Bytes, most4}
 use Rattle.page.specs.Page.{number, formed}
 use Rattle.page.specs.Pages.{page, putPage, pages}
@@ -18,7 +18,7 @@ use Rattle.log.specs.Log.{State, Log, atEnd}
 use Rattle.log.specs.Valid.{Good}
 use Rattle.tree.specs.Tree.{wellFormed, allRecords}
 use Rattle.unit.specs.Choice.{compactUnit, orderUnit}
-use Rattle.unit.specs.Next.{target, change, apply, repeat, targetOf, pageOf, nextRec, room}
+use Rattle.unit.specs.Next.{targets, change, atPage, apply, repeat, targetOf, pageOf, nextRec, room}
 use Rattle.store.specs.Calls.{logLength, pagesLength, didOf, todoOf, checkpointed}
 use Rattle.replay.specs.Store.{Format, Meaning}
 
@@ -28,10 +28,6 @@ logOf c l = record { top = c; recs = l }
 
 abbrev pub stateOf : Check → List Rec → State
 stateOf c l = atEnd (logOf c l)
-
--- what the record numbered n does to page p: its change where p is the page that it changes
-unfoldable pub changeAt : (n : ℕ) → Rec → (p : ℕ) → List ℕ → Option (List ℕ)
-changeAt n r p pg = given (target r) (some pg) (λ q. pick (eqb p q) (change n r pg) (some pg))
 
 -- the next record of the open unit, with the tests 5, 6 and 7 of `append`, the page change aside
 unfoldable pub nextOf : (todo : List Step) → (s : State) (w : List ℕ) → Option Rec
@@ -51,7 +47,7 @@ store =
       at = λ w p. page p w;
       copy = λ p from to. putPage p (page p from) to;
       stamp = number;
-      change = changeAt;
+      change = λ n r. atPage (targets r) (change n r);
       apply = apply;
       repeat = repeat;
       num = λ c. c .number;

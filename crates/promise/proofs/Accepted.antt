@@ -14,13 +14,13 @@ use Rattle.page.specs.Pages.{pages}
 use Rattle.page.proofs.Pages.{formed-pages}
 use Rattle.log.specs.Record.{Check, Begin, Rec, LB, size, encode}
 use Rattle.log.specs.Plan.{plan}
-use Rattle.log.specs.Log.{Open}
+use Rattle.log.specs.Log.{Open, after}
 use Rattle.log.proofs.State.{sizes}
 use Rattle.log.specs.Valid.{Good}
 use Rattle.log.proofs.Sound.{Waits, waits-open, sound-atEnd}
 use Rattle.unit.specs.Choice.{compactUnit, orderUnit}
 use Rattle.unit.specs.Next.{apply, room}
-use Rattle.store.specs.Calls.{Lent, lent, Left, left, refused, todoOf, begun, beginWith, logLength}
+use Rattle.store.specs.Calls.{Lent, lent, Left, left, refused, todoOf, begun, beginWith, stepped, logLength}
 use Rattle.store.specs.Calls as Calls
 use Rattle.store.proofs.Chain.{not-there}
 use Rattle.replay.specs.Store.{Settled}
@@ -57,7 +57,7 @@ module _ (U : UnitLaws store asked) {origin : List ℕ} (d : Lent) (v : Ran orig
   begin-is : (g : Begin) (choose : ℕ → List (List ℕ) → Option Begin) → length (todoOf (stateOf (v .top) (v .recs) .opened)) ≡ 0
       → choose (stateOf (v .top) (v .recs) .unit + 1) (pages (d .work)) ≡ some g → Fitting (v .top) (v .recs) (d .work) g
       → beginWith d (stateOf (v .top) (v .recs)) choose ≡ left 0 [] (grownBy d (v .top) (v .recs) (LB g) (d .work))
-  unfolding beginWith begun
+  unfolding beginWith begun stepped after
   begin-is g choose z e b =
       let s : Settled store asked origin (d .work) (v .top) (v .recs) = ran-settled store asked page-laws U (v .settled) (v .uncut) z in
       let o : stateOf (v .top) (v .recs) .opened ≡ none =

@@ -18,7 +18,7 @@ use Rattle.page.specs.Page.{number}
 use Rattle.page.specs.Pages.{page, pages}
 use Rattle.log.specs.Record.{Check, Begin, Rec, LB, encode}
 use Rattle.log.specs.Plan.{Step}
-use Rattle.log.specs.Log.{Open, State, lastForced}
+use Rattle.log.specs.Log.{Open, State, after, lastForced}
 use Rattle.log.proofs.State.{sizes, at-atEnd, number-atEnd}
 use Rattle.log.proofs.Plan.{Ending}
 use Rattle.log.specs.Valid.{Good}
@@ -182,7 +182,7 @@ module _ (U : UnitLaws store asked) {rs : List (List ℕ)} {origin : List ℕ} (
 
   begun-live : (g : Begin) → stateOf (v .top) (v .recs) .opened ≡ none → Chooses (stateOf (v .top) (v .recs)) (d .work) g
       → Live rs origin (begun d (stateOf (v .top) (v .recs)) g .now)
-  unfolding begun
+  unfolding begun stepped after
   begun-live g e ch =
       by-test _ 0 6 _ v (λ fits. by-test _ 0 7 _ v (λ nums.
       let b : Begins (v .top) (d .work) (v .recs) (LB g) =

@@ -12,7 +12,7 @@ use Rattle.page.proofs.Pages.{formed-pages}
 use Rattle.log.specs.Record.{Begin}
 use Rattle.log.specs.Log.{Open, readLog}
 use Rattle.unit.specs.Choice.{orderUnit}
-use Rattle.store.specs.Calls.{Lent, Left, refused, begun, beginWith}
+use Rattle.store.specs.Calls.{Lent, Left, refused, begun, beginWith, stepped}
 use Rattle.store.specs.Calls as Calls
 use Rattle.store.proofs.Refusals.{reply-refused}
 use Rattle.replay.specs.Store.{Settled}
@@ -60,7 +60,7 @@ module _ (U : UnitLaws store asked) {origin : List ℕ} (d : Lent) (v : Ran orig
   r12 = other 0 12 d (λ q. omega arith) (λ q. omega arith) (λ q. omega arith) (λ q. omega arith)
 
   begun-spared : (g : Begin) → Spared (begun d (stateOf (v .top) (v .recs)) g)
-  unfolding begun
+  unfolding begun stepped
   begun-spared g = spared-test _ _ _ r6 (spared-test _ _ _ r7 (spared-zero _ refl))
 
   -- past test 9 the pages are in form and the tree is well formed

@@ -13,7 +13,8 @@ use Rattle.page.specs.Pages.{page}
 use Rattle.page.proofs.Pages.{bytes-page, bytes-putPage, length-page, length-putPage, page-putPage-same, page-putPage-other, pages-ext}
 use Rattle.log.specs.Record.{Rec}
 use Rattle.log.specs.Log.{listed}
-use Rattle.unit.specs.Next.{targets, change, changeAgain, atPage}
+use Rattle.unit.specs.Next.{targets, change, changeAgain}
+use Rattle.unit.specs.Made.{atPage}
 use Rattle.unit.proofs.Pagewise.{at-listed, at-other, at-again}
 use Rattle.unit.proofs.Changed.{apply-bytes, repeat-bytes}
 use Rattle.unit.proofs.Kept.{leaves, apply-pages, repeat-pages, repeats-pages}

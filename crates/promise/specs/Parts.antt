@@ -18,7 +18,8 @@ use Rattle.log.specs.Log.{State, Log, atEnd}
 use Rattle.log.specs.Valid.{Good}
 use Rattle.tree.specs.Tree.{wellFormed, allRecords}
 use Rattle.unit.specs.Choice.{compactUnit, orderUnit}
-use Rattle.unit.specs.Next.{targets, change, atPage, apply, repeat, targetOf, pageOf, nextRec, room}
+use Rattle.unit.specs.Next.{targets, change, apply, repeat, targetOf, pageOf, nextRec, room}
+use Rattle.unit.specs.Made.{atPage}
 use Rattle.store.specs.Calls.{logLength, pagesLength, didOf, todoOf, checkpointed}
 use Rattle.replay.specs.Store.{Format, Meaning}
 

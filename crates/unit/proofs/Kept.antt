@@ -19,7 +19,8 @@ use Rattle.log.specs.Log.{Open, State, first, after, afterAll, listed, Log}
 use Rattle.log.specs.Valid.{Does, does-out, does-in, does-point, does-close, Follows, begins, goes, Fits, Valid, nil, cons, Good}
 use Rattle.log.proofs.Sound.{Sound, Waits, Awaits, waits-open, awaits-moved, sound-first, sound-after}
 use Rattle.tree.specs.Walk.{InForm}
-use Rattle.unit.specs.Next.{targets, change, changeAgain, atPage, apply, repeat, repeatAll}
+use Rattle.unit.specs.Next.{targets, change, changeAgain, apply, repeat, repeatAll}
+use Rattle.unit.specs.Made.{atPage}
 use Rattle.unit.proofs.Places.{RecKeeps, OpenKeeps, follows-keeps, open-keeps}
 use Rattle.unit.proofs.Pagewise.{Once, once-small, at-listed, at-cases, Makes, Pagewise, changed-pages, changes-pages, again-cases}
 use Rattle.unit.proofs.Changed.{RowsOf, Leaves, change-leaves, targets-once}

@@ -18,7 +18,8 @@ use Rattle.page.specs.Pages.{page, putPage}
 use Rattle.page.proofs.Pages.{bytes-page, bytes-putPage, length-putPage, page-putPage-same, page-putPage-other}
 use Rattle.log.specs.Record.{Rec}
 use Rattle.log.specs.Log.{listed}
-use Rattle.unit.specs.Next.{targets, change, changeAgain, changedAt, atPage, apply, repeat}
+use Rattle.unit.specs.Next.{targets, change, changeAgain, changedAt, apply, repeat}
+use Rattle.unit.specs.Made.{atPage}
 
 -- ---- a page among others
 

@@ -1,4 +1,5 @@
--- How the code finds an entry, and what it leaves of the pages: the answer of a change that may be refused. Assumes nothing.
+-- How the code finds an entry, and what it leaves of the pages: the answer of a change that may be refused, and one page of several that are
+-- changed. Assumes nothing.
 use Prim.Native.Nat.{ℕ, suc}
 use mathlib.Core.Path.{_≡_}
 use mathlib.Core.Bool.{Bool}
@@ -6,6 +7,7 @@ use mathlib.Core.List.{List, [], _∷_}
 use mathlib.Core.Option.{Option, some, none}
 use Rattle.field.specs.Test.{pick, given, there}
 use Rattle.page.specs.Change.{isEntry}
+use Rattle.log.specs.Log.{listed}
 use Rattle.unit.specs.declared.entry.Lowest.{Lowest}
 use Rattle.unit.specs.declared.entry.Lowest.the-variants.{Nothing, Key}
 
@@ -23,3 +25,7 @@ placeOf key p (e ∷ es) = let rest = placeOf key p es in pick (isEntry key p e)
 pub record Did (o : Option (List ℕ)) (w : List ℕ) (r : Bool) (v : List ℕ) : Type 0 where
   pub said : r ≡ there o
   pub left : v ≡ given o w (λ x. x)
+
+-- what becomes of page p where the pages ps are changed: what f makes of it where it is one of them, else it stays
+unfoldable pub atPage : (ps : List ℕ) → (f : (p : ℕ) → List ℕ → Option (List ℕ)) → (p : ℕ) → List ℕ → Option (List ℕ)
+atPage ps f p pg = pick (listed p ps) (f p pg) (some pg)

@@ -11,7 +11,7 @@ use Rattle.page.specs.Change.{emptied, appended, redirected, removed}
 use Rattle.page.specs.Pages.{page, putPage}
 use Rattle.log.specs.Record.{out, into, modify, end, lengthOf, Rec, LB, LO, LI, LM, LE}
 use Rattle.log.specs.Plan.{Step, takeOut, bringIn, point, close}
-use Rattle.log.specs.Log.{listed, taken}
+use Rattle.log.specs.Log.{taken}
 
 -- ---- what a record does
 
@@ -39,10 +39,6 @@ changeAgain n r p pg = pick (leb n (number pg)) (some pg) (change n r p pg)
 unfoldable pub changedAt : (ps : List ℕ) → (f : (p : ℕ) → List ℕ → Option (List ℕ)) → (w : List ℕ) → Option (List ℕ)
 changedAt [] f w = some w
 changedAt (p ∷ ps) f w = bind (f p (page p w)) (λ pg. changedAt ps f (putPage p pg w))
-
--- what becomes of one page, whatever its number p: what f makes of it where it is one of these, else it stays
-unfoldable pub atPage : (ps : List ℕ) → (f : (p : ℕ) → List ℕ → Option (List ℕ)) → (p : ℕ) → List ℕ → Option (List ℕ)
-atPage ps f p pg = pick (listed p ps) (f p pg) (some pg)
 
 -- the record numbered n applied to the work pages; none is reply 5
 unfoldable pub apply : (n : ℕ) → Rec → (w : List ℕ) → Option (List ℕ)

@@ -32,7 +32,7 @@ use Rattle.unit.specs.Next.{targets, apply, targetOf, pageOf, lowestTo, skipped
 use Rattle.unit.specs.Made.{keyIn, Did}
 use Rattle.unit.specs.declared.entry.Lowest.{Lowest}
 use Rattle.unit.specs.declared.entry.Lowest.the-variants.{Nothing, Key}
-use Rattle.unit.proofs.Pagewise.{apply-none}
+use Rattle.unit.proofs.Pagewise.{apply-stays}
 use Rattle.unit.proofs.Applied.{out-own, can-page}
 use Rattle.store.specs.Calls.{Went, stopped, went, didOf, todoOf, append}
 use Rattle.unit.specs.Again.{nextStep}
@@ -367,7 +367,7 @@ module _ (work : List ℕ) {l : List ℕ} {w : Walk} (s : Stands l w) (unit : �
 
   close-made : apply (w .number .0 + 1) (LE unit) work ≡ some work
   unfolding targets
-  close-made = apply-none (w .number .0 + 1) (LE unit) work refl
+  close-made = apply-stays (w .number .0 + 1) (LE unit) work refl
 
   module _ (t : ℕ) (g : t ≡ tested (w .at + room work (toCome l w)) (w .number .0 + 1)) where
     pub close-stopped : (t ≡ 0 → ⊥) → Goes (appendNext work l) work l t work l

@@ -110,7 +110,7 @@ unfoldable pub todoOf : Option Open → List Step
 todoOf none = []
 todoOf (some o) = o .todo
 
--- one record appended, which leaves the pages w: what is known after it, and its bytes put at the log's end
+-- one record appended, the pages being w after it: the log's state then, and the record's bytes put at the log's end
 abbrev pub logged : (s : State) → Rec → (w l : List ℕ) → Went
 logged s r w l = went (after s r) w (put (s .at) (encode (s .number + 1) r) l)
 

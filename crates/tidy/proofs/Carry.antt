@@ -10,7 +10,7 @@ use Rattle.log.specs.Record.{Rec, LE, kindOf, carried, size}
 use Rattle.log.specs.Plan.{Step, takeOut, bringIn, point, close}
 use Rattle.unit.specs.Next.{targets, targetOf, pageOf, nextRec, stepSize}
 use Rattle.unit.proofs.Places.{Leafy, StepKeeps, Keeping, one-more}
-use Rattle.unit.proofs.Pagewise.{apply-none}
+use Rattle.unit.proofs.Pagewise.{apply-stays}
 use Rattle.tidy.specs.Tidy.{Carried}
 use Rattle.tidy.proofs.Model.{State}
 use Rattle.tidy.proofs.Run.{Run}
@@ -47,7 +47,7 @@ one-step st c =
 close-step : (n u : ℕ) (did : List Rec) (xs : List Step) (w : List ℕ) (s : State) → Shows w s → Stepped n did (close u) xs w (LE u) s
 unfolding nextRec targetOf pageOf stepSize size kindOf carried targets
 close-step n u did xs w s sh =
-    record { now = w; form = tt; next = refl; applied = apply-none n (LE u) w refl; counted = refl; left = refl; shows = sh; top = refl }
+    record { now = w; form = tt; next = refl; applied = apply-stays n (LE u) w refl; counted = refl; left = refl; shows = sh; top = refl }
 
 -- the page that an LM points to is no 0
 leaf-to : (new : ℕ) → 1 ≤ new → (new ≡ 0) ⊎ Leafy new → Leafy new

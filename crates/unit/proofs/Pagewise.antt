@@ -202,15 +202,15 @@ at-again n r p pg = by-tests (listed p (targets r)) (leb n (number pg))
     by-tests false true = unfold pick in refl
     by-tests false false = unfold pick in refl
 
--- it changes no page
+-- it changes no page: they stay
 module _ (n : ℕ) (r : Rec) (w : List ℕ) (t : targets r ≡ []) where
-  pub apply-none : apply n r w ≡ some w
+  pub apply-stays : apply n r w ≡ some w
   unfolding apply
-  apply-none = rw t (changed-none (change n r) w)
+  apply-stays = rw t (changed-none (change n r) w)
 
-  pub repeat-none : repeat n r w ≡ some w
+  pub repeat-stays : repeat n r w ≡ some w
   unfolding repeat
-  repeat-none = rw t (changed-none (changeAgain n r) w)
+  repeat-stays = rw t (changed-none (changeAgain n r) w)
 
 -- it changes one, page p
 module _ (n p : ℕ) (r : Rec) (w : List ℕ) (t : targets r ≡ p ∷ []) where

@@ -24,7 +24,7 @@ use Rattle.unit.specs.Made.{Did}
 use Rattle.field.specs.declared.PageNo.{PageNo}
 use Rattle.field.specs.declared.UnitNo.{UnitNo}
 use Rattle.unit.specs.Again.{OutReads, InReads, PointReads, Reads}
-use Rattle.unit.proofs.Pagewise.{repeat-none}
+use Rattle.unit.proofs.Pagewise.{repeat-stays}
 use Rattle.unit.proofs.Applied.{did-some}
 
 -- k rows that the code lends
@@ -106,4 +106,4 @@ module _ (n : ℕ) (l : List ℕ) (w : Walk) (p : Planned) (v v′ : List ℕ) (
 
 pub step-close! : (n : ℕ) (l : List ℕ) (w : Walk) (p : Planned) (v : List ℕ) (unit : UnitNo) → p ≡ Close unit → Did (repeat n (recordAt l w (stepOf p)) v) v true v
 unfolding stepOf recordAt targets
-step-close! n l w p v unit e = rw e (did-some _ v v v (repeat-none n (LE (unit .0)) v refl) refl)
+step-close! n l w p v unit e = rw e (did-some _ v v v (repeat-stays n (LE (unit .0)) v refl) refl)

@@ -30,7 +30,7 @@ use Rattle.unit.specs.Next.{targets, repeat, repeatAll}
 use Rattle.unit.specs.Made.{Did}
 use Rattle.unit.specs.Again.{Reads, nextStep, Ahead, redone, repeated, Repeated}
 use Rattle.unit.proofs.Places.{StepKeeps, Keeping, no-step, one-more, plan-keeps}
-use Rattle.unit.proofs.Pagewise.{repeat-none}
+use Rattle.unit.proofs.Pagewise.{repeat-stays}
 use Rattle.unit.proofs.Applied.{did-some}
 
 -- ---- one record, by numbers
@@ -97,7 +97,7 @@ module _ {l : List ℕ} {s : State} {r : Rec} {rs : List Rec} {o : Open} (t : To
 
 begin-repeats : (n : ℕ) (g : Begin) (v : List ℕ) → repeat n (LB g) v ≡ some v
 unfolding targets
-begin-repeats n g v = repeat-none n (LB g) v refl
+begin-repeats n g v = repeat-stays n (LB g) v refl
 
 shown-number : (s : State) → (shown s) .number .0 ≡ s .number
 unfolding shown

@@ -74,10 +74,6 @@ pub data Heads (a b : ℕ) (to : ℕ → ℕ) : (lo i : ℕ) → List (List ℕ)
 abbrev pub Paged : (to : ℕ → ℕ) (i n : ℕ) (P : ℕ → Type 0) → Type 0
 Paged to i n P = (k : ℕ) → i ≤ k → k < i + n → P (to k)
 
--- and so of those behind the first
-pub paged-rest : (to : ℕ → ℕ) (i n : ℕ) (P : ℕ → Type 0) → Paged to i (suc n) P → Paged to (i + 1) n P
-paged-rest to i n P f k h l = f k (omega arith) (omega arith)
-
 -- the least key that may follow rows is no lower than the least that is allowed in them
 pub above-least : (a b lo : ℕ) (g : List (List ℕ)) → ascend a b lo g ≡ true → lo ≤ above lo g
 unfolding above
@@ -113,7 +109,7 @@ heads-from a b k lo to i ((r ∷ g) ∷ gs) (more s t u) (cons c q) e h =
       over = omega arith;
     } in
     head (entry-of (keyOf r) (to i) small (h i (omega arith) (omega arith))) (f .low) held
-    (heads-from a b k hi to (i + 1) gs u (each-back g (flat gs) q) (both-2 _ _ both-parts) (paged-rest to i (length gs) _ h))
+    (heads-from a b k hi to (i + 1) gs u (each-back g (flat gs) q) (both-2 _ _ both-parts) (λ n l m. h n (omega arith) (omega arith)))
 
 -- and they stay such where the first key becomes 0
 pub heads-zero : (a b lo : ℕ) (to : ℕ → ℕ) (i : ℕ) (es : List (List ℕ)) (gs : List (List (List ℕ))) → Heads a b to lo i es gs → to i < 65536
@@ -166,11 +162,11 @@ module _ {a b : ℕ} {to : ℕ → ℕ} where
       → pointing first last es ≡ true
   unfolding pointing
   heads-pointing first last none h = refl
-  heads-pointing {i = i} first last (head {gs = gs} x low held rest) h =
+  heads-pointing {i = i} first last (head x low held rest) h =
       let q = h i (omega arith) (omega arith) in
       rw (x .to)
       (both-intro _ _ (le-leb first (to i) (q .0))
-      (both-intro _ _ (le-leb (to i) last (q .1)) (heads-pointing first last rest (paged-rest to i (length gs) _ h))))
+      (both-intro _ _ (le-leb (to i) last (q .1)) (heads-pointing first last rest (λ n l m. h n (omega arith) (omega arith)))))
 
   -- none to a page that is no group's
   pub heads-none : {lo i : ℕ} {es : List (List ℕ)} {gs : List (List (List ℕ))} (q : ℕ) → Heads a b to lo i es gs
@@ -178,8 +174,8 @@ module _ {a b : ℕ} {to : ℕ → ℕ} where
       → pointers q es ≡ 0
   unfolding pointers pick
   heads-none q none h = refl
-  heads-none {i = i} q (head {gs = gs} x low held rest) h =
-      rw (x .to, ne-eqb (to i) q (h i (omega arith) (omega arith)), heads-none q rest (paged-rest to i (length gs) _ h))
+  heads-none {i = i} q (head x low held rest) h =
+      rw (x .to, ne-eqb (to i) q (h i (omega arith) (omega arith)), heads-none q rest (λ n l m. h n (omega arith) (omega arith)))
 
   -- and one to each group's, where no two have the same page
   pub heads-once : {lo i : ℕ} {es : List (List ℕ)} {gs : List (List (List ℕ))} (k : ℕ) → ((m n : ℕ) → to m ≡ to n → m ≡ n) → Heads a b to lo i es gs

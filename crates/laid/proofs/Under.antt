@@ -18,7 +18,7 @@ use Rattle.page.proofs.Order.{First, ascend-facts}
 use Rattle.tree.specs.Tree.{under, below, startsAtZero, headed, lower, keysBetween, keysKept}
 use Rattle.tree.specs.Layout.{entriesTo, fromZero}
 use Rattle.laid.proofs.Groups.{flat, Sized, done, more, each-back}
-use Rattle.laid.proofs.Heads.{Entry, key-entry, entry-of, Heads, none, head, Paged, paged-rest, above-least}
+use Rattle.laid.proofs.Heads.{Entry, key-entry, entry-of, Heads, none, head, Paged, above-least}
 
 -- the pages of ps hold the groups, the first being group i, as rows of sz bytes
 abbrev pub Holds : (sz : ℕ) (ps : List (List ℕ)) (to : ℕ → ℕ) (i : ℕ) → List (List (List ℕ)) → Type 0
@@ -85,7 +85,7 @@ from-headed to i k ps ((r ∷ g) ∷ gs) (more s t u) (cons c q) h held =
     let x : Entry (keyOf r) (to i) (entry (keyOf r) (to i)) = entry-of (keyOf r) (to i) small (h i (omega arith) (omega arith)) in
     rw (rows-under 8 to i ps (r ∷ g) gs held (entry (keyOf r) (to i)) (x .to))
     (both-intro _ _ (eq-eqb (keyOf r) (keyOf (entry (keyOf r) (to i))) (sym (x .keyed)))
-    (from-headed to (i + 1) k ps gs u (each-back g (flat gs) q) (paged-rest to i (length gs) _ h) (holds-rest 8 to i ps (r ∷ g) gs held)))
+    (from-headed to (i + 1) k ps gs u (each-back g (flat gs) q) (λ n l m. h n (omega arith) (omega arith)) (holds-rest 8 to i ps (r ∷ g) gs held)))
 
 -- an entry with key 0
 zero-key : (p : ℕ) → keyOf (entry 0 p) ≡ 0

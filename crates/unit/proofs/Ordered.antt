@@ -131,8 +131,8 @@ one-at a b e = rw (eq-eqb a b e)
 stray-leafy : (i : ℕ) (ls : List Leaf) (want b p : PageNo) → ((q : ℕ) → leafPage q ≡ false → held q ls ≡ 0) → ((q : ℕ) → q < place i → held q ls ≡ 0)
     → ((q : ℕ) → held q ls ≤ 1) → stray i ls ≡ At want b p → Leafy (want .0)
 unfolding stray held
-stray-leafy i [] want b p none clear twice e = absurd (nowhere-at want b p e)
-stray-leafy i (l ∷ ls) want b p none clear twice e =
+stray-leafy i [] want b p bare clear twice e = absurd (nowhere-at want b p e)
+stray-leafy i (l ∷ ls) want b p bare clear twice e =
     decide (eqb (l .at) (place i))
     (λ t. let z : l .at ≡ place i = eqb-true (l .at) (place i) t in
     let e1 : stray (i + 1) ls ≡ At want b p = sym (pick-true (eqb (l .at) (place i)) (stray (i + 1) ls) (At (pageNo (place i)) (pageNo (l .base)) (pageNo (l .at))) t) ∙ e in
@@ -143,15 +143,15 @@ stray-leafy i (l ∷ ls) want b p none clear twice e =
     (λ a. omega (arith, clear q a))
     (λ a. let y : l .at ≡ q = omega arith in
     omega (arith, twice q, one-at (l .at) q y)))
-    (λ u. omega (arith, none q u)) in
-    stray-leafy (i + 1) ls want b p (λ q u. omega (arith, none q u)) clear1 (λ q. omega (arith, twice q)) e1)
+    (λ u. omega (arith, bare q u)) in
+    stray-leafy (i + 1) ls want b p (λ q u. omega (arith, bare q u)) clear1 (λ q. omega (arith, twice q)) e1)
     (λ t. let ne : l .at ≡ place i → ⊥ = eqb-false (l .at) (place i) t in
     let e1 : At (pageNo (place i)) (pageNo (l .base)) (pageNo (l .at)) ≡ At want b p = sym
     (pick-false (eqb (l .at) (place i)) (stray (i + 1) ls) (At (pageNo (place i)) (pageNo (l .base)) (pageNo (l .at))) t) ∙ e in
     let v : place i ≡ want .0 = at-want (pageNo (place i)) (pageNo (l .base)) (pageNo (l .at)) want b p e1 in
     let here = one-at (l .at) (l .at) refl in
     let stands : leafPage (l .at) ≡ true =
-    decide (leafPage (l .at)) (λ u. u) (λ u. absurd (let c : ⊥ = omega (arith, none (l .at) u) in c)) in
+    decide (leafPage (l .at)) (λ u. u) (λ u. absurd (let c : ⊥ = omega (arith, bare (l .at) u) in c)) in
     let above : place i < l .at =
     split (place i) (l .at) (λ a. a)
     (λ a. split (l .at) (place i) (λ k. absurd (let c : ⊥ = omega (arith, clear (l .at) k) in c)) (λ k. absurd (ne (omega arith)))) in

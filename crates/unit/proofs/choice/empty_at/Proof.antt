@@ -21,7 +21,7 @@ shared-slice-read-result c = omega (arith, c .before .before .pre .0 .whole)
 returns : tie.Need-returns
 returns c =
     let a = c .before .before in
-    empty-letter (a .args .w .now) (a .args .p .0) (a .pre .0) (omega arith) ∙ sym (empty-leaf (a .args .p .0) _ (a .pre .1, a .pre .2))
+    empty-letter (a .args .w .now) (a .args .p .0) (a .pre .0) (omega arith) ∙ sym (empty-leaf (a .args .p .0) _ (a .pre .1))
 
 pub empty-at-spec : {M : Type 1} → statement M
 empty-at-spec = tie.close (tie.spec cast-result mul-result add-result shared-slice-read-result returns)

@@ -11,7 +11,7 @@ use borrow.Author.Tests.{le-leb, lt-leb, leb-true, not-true, not-false}
 use Rattle.field.specs.Bytes.{put, zeroes}
 use Rattle.field.proofs.Test.{both-intro, both-true, both-false, all-head, all-tail, all-one, all-true, all-false, need-true, need-false}
 use Rattle.field.proofs.Part.{put-whole}
-use Rattle.page.specs.Page.{rowsOf, ascendRecords}
+use Rattle.page.specs.Page.{basePages, leafPages, rowsOf, ascendRecords}
 use Rattle.log.specs.Write.{lkOf, checkOf}
 use Rattle.tree.specs.Layout.{leafGroups, baseGroups, layout}
 use Rattle.store.specs.Calls.{Lent, lent, Left, left, refused, threeSized, newLog, build}
@@ -29,7 +29,7 @@ module _ (f g : ℕ) (d : Lent) where
 
   -- test 17
   abbrev pub fits : Bool
-  fits = both (leb (length (leafGroups f given)) 56) (leb (length (baseGroups f g given)) 7)
+  fits = both (leb (length (leafGroups f given)) leafPages) (leb (length (baseGroups f g given)) basePages)
 
   pub build-unsized : threeSized d ≡ false → build f g d ≡ refused 0 1 d
   unfolding build
@@ -108,12 +108,12 @@ module _ (used forced : ℕ) (work store log records : List ℕ) (f g : ℕ) whe
             unfolding Ranges.inRange
             many e k = refused-as 17 (build-many f g lentAs (three-sized lentAs w s l) (sym xe ∙ not-false x t) (sym ye ∙ not-false y o) e) k
 
-            pub build-no-leaves! : Kept used forced 17 v u n → 56 < i → got ≡ build f g lentAs
-            build-no-leaves! k h = many (both-false _ _ (lt-leb (length (leafGroups f rows)) 56 (rw ie at h))) k
+            pub build-no-leaves! : Kept used forced 17 v u n → leafPages < i → got ≡ build f g lentAs
+            build-no-leaves! k h = many (both-false _ _ (lt-leb (length (leafGroups f rows)) leafPages (rw ie at h))) k
 
-            pub build-no-bases! : Kept used forced 17 v u n → (j : ℕ) → j ≡ length (baseGroups f g rows) → 7 < j → i ≤ 56 → got ≡ build f g lentAs
+            pub build-no-bases! : Kept used forced 17 v u n → (j : ℕ) → j ≡ length (baseGroups f g rows) → basePages < j → i ≤ leafPages → got ≡ build f g lentAs
             build-no-bases! k j je h m =
-                many (both-true _ _ (le-leb (length (leafGroups f rows)) 56 (rw ie at m)) ∙ lt-leb (length (baseGroups f g rows)) 7 (rw je at h)) k
+                many (both-true _ _ (le-leb (length (leafGroups f rows)) leafPages (rw ie at m)) ∙ lt-leb (length (baseGroups f g rows)) basePages (rw je at h)) k
 
   -- the tests that a build has passed
   pub record Passed : Type 0 where
@@ -122,8 +122,8 @@ module _ (used forced : ℕ) (work store log records : List ℕ) (f g : ℕ) whe
     pub log-sized : length log ≡ 8192
     pub ranged : Ranges.inRange f g (length records) ≡ true
     pub ordered : ascendRecords 0 rows ≡ true
-    pub leaves : length (leafGroups f rows) ≤ 56
-    pub bases : length (baseGroups f g rows) ≤ 7
+    pub leaves : length (leafGroups f rows) ≤ leafPages
+    pub bases : length (baseGroups f g rows) ≤ basePages
 
   -- the tree in work and store, and a new log
   pub build-all : (w′ s′ l′ : List ℕ) → Passed → w′ ≡ layout f g rows → s′ ≡ layout f g rows → l′ ≡ newLog (checkOf 1 0 false 0)
@@ -132,7 +132,7 @@ module _ (used forced : ℕ) (work store log records : List ℕ) (f g : ℕ) whe
   build-all w′ s′ l′ p a b c =
       let sized : threeSized lentAs ≡ true = three-sized lentAs (p .work-sized) (p .store-sized) (p .log-sized) in
       let few : fits f g lentAs ≡ true =
-      both-intro _ _ (le-leb (length (leafGroups f rows)) 56 (p .leaves)) (le-leb (length (baseGroups f g rows)) 7 (p .bases)) in
+      both-intro _ _ (le-leb (length (leafGroups f rows)) leafPages (p .leaves)) (le-leb (length (baseGroups f g rows)) basePages (p .bases)) in
       rw (a, b, c) (sym (build-builds f g lentAs sized (p .ranged) (p .ordered) few))
 
 -- ---- the parts

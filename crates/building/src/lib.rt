@@ -5,6 +5,7 @@ ghost use Rattle.store.specs.Calls.{lent, left, build};
 ghost use Rattle.building.specs.Ranges.{inRange};
 use field::LogNo;
 use field::UnitNo;
+use page::bounds;
 use store::fresh;
 use store::known;
 use store::known::Answer;
@@ -57,10 +58,10 @@ pub fn build(
     if !tree::build::ascending(records) {
         return known::kept(n, 16);
     }
-    if 56 < tree::build::leaf_count(records, f) {
+    if bounds::LEAF_PAGES < tree::build::leaf_count(records, f) {
         return known::kept(n, 17);
     }
-    if 7 < tree::build::base_count(records, f, g) {
+    if bounds::BASE_PAGES < tree::build::base_count(records, f, g) {
         return known::kept(n, 17);
     }
     tree::build::build_pages(work, f, g, records);

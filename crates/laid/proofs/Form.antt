@@ -13,18 +13,21 @@ use Rattle.field.specs.Test.{pick}
 use Rattle.field.specs.Bytes.{Bytes, zeroes}
 use Rattle.field.proofs.Test.{both-intro, all-intro, all-nil, pick-true, pick-false}
 use Rattle.field.proofs.Byte.{bytes-zeroes}
-use Rattle.page.specs.Page.{Kind, root, base, leaf, empty, ascend, pointing, number, made, shaped, isRoot, isEmpty, formed}
+use Rattle.page.specs.Page.{Kind, root, base, leaf, empty, ascend, number, made, shaped, isRoot, isEmpty, formed}
+use Rattle.page.specs.Page.{firstBase, lastBase, basePages, leafPages, toLeaves}
+use Rattle.page.specs.Places.{place, basePlace}
 use Rattle.page.specs.Pages.{allFormed}
 use Rattle.page.specs.Each.{Each, nil, Long}
 use Rattle.page.proofs.Made.{shaped-facts, Fit, fit-root, fit-base, fit-leaf, fit-empty, Fill, letter-made, bytes-made}
 use Rattle.page.proofs.Kept.{Changed, made-changed, changed-empty, changed-leaf, changed-base}
 use Rattle.page.proofs.Region.{formed-0, empty-formed, base-formed, leaf-formed}
+use Rattle.page.proofs.Places.{base-place-in, base-place-apart, place-in, place-apart, place-above}
 use Rattle.page.proofs.Pages.{formed-all}
 use Rattle.tree.specs.Tree.{rootEntries, baseEntries, allRecords, pointers, pointedOnce, startsAtZero, headed, wellFormed}
 use Rattle.tree.specs.Layout.{fresh}
 use Rattle.tree.proofs.Tally.{pointers-append}
 use Rattle.laid.proofs.Groups.{flat}
-use Rattle.laid.proofs.Heads.{Heads, heads-length, heads-long, heads-ascend, heads-pointing, heads-before, heads-after, heads-once}
+use Rattle.laid.proofs.Heads.{Heads, heads-length, heads-long, heads-ascend, heads-pointing, heads-none, heads-once}
 use Rattle.laid.proofs.Under.{Holds, heads-below, heads-kept}
 use Rattle.laid.proofs.Sheet.{sheet, each-sheet, length-sheet, sheet-base, sheet-leaf, places, run-full}
 
@@ -78,16 +81,16 @@ once-all es p (pg ∷ pgs) f =
 
 -- root entries es over the groups bs of the entries level, and these over the groups ls of records
 pub record Parts (es level : List (List ℕ)) (bs ls : List (List (List ℕ))) : Type 0 where
-  pub seven : length bs ≤ 7
-  pub most : length ls ≤ 56
-  pub upper : Heads 101 110 0 1 es bs
-  pub lower : Heads 114 99 0 8 level ls
+  pub seven : length bs ≤ basePages
+  pub most : length ls ≤ leafPages
+  pub upper : Heads 101 110 basePlace 0 0 es bs
+  pub lower : Heads 114 99 place 0 0 level ls
   pub grouped : flat bs ≡ level
   pub bases : (i : ℕ) → i < length bs → Fill base (getD bs i [])
-  pub pointed : (i : ℕ) → i < length bs → pointing 8 63 (getD bs i []) ≡ true
+  pub pointed : (i : ℕ) → i < length bs → toLeaves (getD bs i []) ≡ true
   pub leaves : (i : ℕ) → i < length ls → Fill leaf (getD ls i [])
   pub starts : startsAtZero es ≡ true
-  pub heads : (ps : List (List ℕ)) → Holds 8 ps 1 bs → headed ps es ≡ true
+  pub heads : (ps : List (List ℕ)) → Holds 8 ps basePlace 0 bs → headed ps es ≡ true
 
 module _ (es level : List (List ℕ)) (bs ls : List (List (List ℕ))) (t : Parts es level bs ls) where
   -- the root's entries fit a root page
@@ -127,7 +130,7 @@ module _ (es level : List (List ℕ)) (bs ls : List (List (List ℕ))) (t : Part
   unfolding isRoot
   root-formed =
       formed-0 (fresh root es)
-      ∙ both-intro _ _ (root-changed .form) (rw (root-changed .holds) (heads-pointing 1 7 (t .upper) (omega arith) (omega (arith, t .seven))))
+      ∙ both-intro _ _ (root-changed .form) (rw (root-changed .holds) (heads-pointing firstBase lastBase (t .upper) (λ k h l. base-place-in k (omega (arith, t .seven)))))
 
   -- every page is in form
   pub sheet-formed : allFormed 0 (sheet es bs ls) ≡ true
@@ -136,22 +139,23 @@ module _ (es level : List (List ℕ)) (bs ls : List (List (List ℕ))) (t : Part
       formed-all 0 (sheet es bs ls)
       (λ q h. rw (zero-add q)
       (places es bs ls (t .seven) (t .most) (λ p pg. formed p pg ≡ true) root-formed
-      (λ i k. base-formed (1 + i) (fresh base (getD bs i [])) (omega arith) (omega (arith, t .seven))
+      (λ i k. let h = base-place-in i (omega (arith, t .seven)) in
+      base-formed (basePlace i) (fresh base (getD bs i [])) (h .0) (h .1)
       (changed-base 0 (getD bs i []) (fresh base (getD bs i [])) (base-changed i k) (t .pointed i k)))
-      (λ i k m. empty-formed (1 + i) (fresh empty []) (omega arith) none)
-      (λ i k. leaf-formed (8 + i) (fresh leaf (getD ls i [])) (omega arith)
+      (λ i k m. empty-formed (basePlace i) (fresh empty []) (base-place-in i m .0) none)
+      (λ i k. leaf-formed (place i) (fresh leaf (getD ls i [])) (place-in i (omega (arith, t .most)) .0)
       (changed-leaf 0 (getD ls i []) (fresh leaf (getD ls i [])) (leaf-changed i k)))
-      (λ i k m. empty-formed (8 + i) (fresh empty []) (omega arith) none)
+      (λ i k m. empty-formed (place i) (fresh empty []) (omega (arith, place-in i m .0)) none)
       q (omega (arith, length-sheet es bs ls (t .seven) (t .most)))))
 
-  -- pages 1 on hold the groups of entries
-  holds-base : Holds 8 (sheet es bs ls) 1 bs
+  -- the base pages hold the groups of entries
+  holds-base : Holds 8 (sheet es bs ls) basePlace 0 bs
   holds-base i h =
-      rw (sheet-base es bs ls (t .seven) (t .most) i (omega (arith, t .seven)), run-full 7 base bs i h) (base-changed i h .holds)
+      rw (zero-add i, sheet-base es bs ls (t .seven) (t .most) i (omega (arith, t .seven)), run-full basePages base bs i h) (base-changed i h .holds)
 
-  -- pages 8 on hold the groups of records
-  holds-leaf : Holds 16 (sheet es bs ls) 8 ls
-  holds-leaf i h = rw (sheet-leaf es bs ls (t .seven) (t .most) i, run-full 56 leaf ls i h) (leaf-changed i h .holds)
+  -- the leaf pages hold the groups of records
+  holds-leaf : Holds 16 (sheet es bs ls) place 0 ls
+  holds-leaf i h = rw (zero-add i, sheet-leaf es bs ls (t .seven) (t .most) i, run-full leafPages leaf ls i h) (leaf-changed i h .holds)
 
   -- the root's entries
   root-is : rootEntries (sheet es bs ls) ≡ es
@@ -176,29 +180,29 @@ module _ (es level : List (List ℕ)) (bs ls : List (List (List ℕ))) (t : Part
       places es bs ls (t .seven) (t .most) (λ p pg. 1 ≤ p → pointers p (es ++ level) ≡ pick (isEmpty pg) 0 1)
       (λ k. absurd (not-suc-le-zero k))
       (λ i k l. rw (
-        pointers-append (1 + i) es level,
-        heads-once (1 + i) (t .upper) l (omega arith),
-        heads-before (1 + i) (t .lower) (omega (arith, t .seven)),
+        pointers-append (basePlace i) es level,
+        heads-once i base-place-apart (t .upper) (omega arith) (omega arith),
+        heads-none (basePlace i) (t .lower) (λ n u v e. omega (arith, place-above n i (omega (arith, t .seven)))),
         fresh-not-empty base (getD bs i []) (λ e. omega arith),
         pick-false {A = ℕ} false 0 1 refl,
       ))
       (λ i k m l. rw (
-        pointers-append (1 + i) es level,
-        heads-after (1 + i) (t .upper) (omega arith),
-        heads-before (1 + i) (t .lower) (omega arith),
+        pointers-append (basePlace i) es level,
+        heads-none (basePlace i) (t .upper) (λ n u v e. omega (arith, base-place-apart n i e)),
+        heads-none (basePlace i) (t .lower) (λ n u v e. omega (arith, place-above n i m)),
         none,
       ))
       (λ i k l. rw (
-        pointers-append (8 + i) es level,
-        heads-after (8 + i) (t .upper) (omega (arith, t .seven)),
-        heads-once (8 + i) (t .lower) (omega arith) (omega arith),
+        pointers-append (place i) es level,
+        heads-none (place i) (t .upper) (λ n u v e. omega (arith, place-above i n (omega (arith, t .seven)))),
+        heads-once i place-apart (t .lower) (omega arith) (omega arith),
         fresh-not-empty leaf (getD ls i []) (λ e. omega arith),
         pick-false {A = ℕ} false 0 1 refl,
       ))
       (λ i k m l. rw (
-        pointers-append (8 + i) es level,
-        heads-after (8 + i) (t .upper) (omega (arith, t .seven)),
-        heads-after (8 + i) (t .lower) (omega arith),
+        pointers-append (place i) es level,
+        heads-none (place i) (t .upper) (λ n u v e. omega (arith, place-above i n (omega (arith, t .seven)))),
+        heads-none (place i) (t .lower) (λ n u v e. omega (arith, place-apart n i e)),
         none,
       ))
       q h

@@ -1,5 +1,5 @@
--- Entries that lead to groups of rows, one page a group from page p on: that `entriesFrom` makes such entries, from the leftmost key
--- or from 0, and what they are like, whatever the rows. Once for entries over records and over entries. Assumes nothing.
+-- Entries that lead to groups of rows, group i's to page `to i`: that `entriesTo` makes such entries, from the leftmost key or from 0, and
+-- what they are like, whatever the rows and the pages. Once for entries over records and over entries. Assumes nothing.
 use Prim.Native.Nat.{ℕ, suc, _+_, _≤_, _<_}
 use native.Mathlib.Nat.{not-suc-le-zero}
 use native.Mathlib.Omega.{arith}
@@ -19,7 +19,7 @@ use Rattle.page.specs.Change.{above}
 use Rattle.page.specs.Each.{Each, nil, cons, Long}
 use Rattle.page.proofs.Order.{First, ascend-facts, ascend-of, ascend-lower, ascend-append}
 use Rattle.tree.specs.Tree.{pointers}
-use Rattle.tree.specs.Layout.{entriesFrom, fromZero}
+use Rattle.tree.specs.Layout.{entriesTo, fromZero}
 use Rattle.laid.proofs.Groups.{flat, Sized, done, more, each-back}
 
 -- ---- an entry
@@ -64,11 +64,15 @@ pub record Held (a b key hi : ℕ) (g : List (List ℕ)) : Type 0 where
   pub inside : above key g ≤ hi
   pub over : key < hi
 
--- an entry for each group, the first to page p with a key of lo or more; a b is the mark of the rows
-pub data Heads (a b : ℕ) : (lo p : ℕ) → List (List ℕ) → List (List (List ℕ)) → Type 0 where
-  none : {lo p : ℕ} → Heads a b lo p [] []
-  head : {lo p key hi : ℕ} {e : List ℕ} {es : List (List ℕ)} {g : List (List ℕ)} {gs : List (List (List ℕ))} → Entry key p e → lo ≤ key
-      → Held a b key hi g → Heads a b hi (p + 1) es gs → Heads a b lo p (e ∷ es) (g ∷ gs)
+-- an entry for each group, the first being group i, with a key of lo or more; a b is the mark of the rows
+pub data Heads (a b : ℕ) (to : ℕ → ℕ) : (lo i : ℕ) → List (List ℕ) → List (List (List ℕ)) → Type 0 where
+  none : {lo i : ℕ} → Heads a b to lo i [] []
+  head : {lo i key hi : ℕ} {e : List ℕ} {es : List (List ℕ)} {g : List (List ℕ)} {gs : List (List (List ℕ))} → Entry key (to i) e → lo ≤ key
+      → Held a b key hi g → Heads a b to hi (i + 1) es gs → Heads a b to lo i (e ∷ es) (g ∷ gs)
+
+-- what holds of the page of each of n groups, the first being group i
+abbrev pub Paged : (to : ℕ → ℕ) (i n : ℕ) (P : ℕ → Type 0) → Type 0
+Paged to i n P = (k : ℕ) → i ≤ k → k < i + n → P (to k)
 
 -- the least key that may follow rows is no lower than the least that is allowed in them
 pub above-least : (a b lo : ℕ) (g : List (List ℕ)) → ascend a b lo g ≡ true → lo ≤ above lo g
@@ -84,14 +88,14 @@ unfolding above
 above-lower lo hi [] h = h
 above-lower lo hi (r ∷ g) h = omega arith
 
--- `entriesFrom` makes such entries
-pub heads-from : (a b k lo p : ℕ) (gs : List (List (List ℕ))) → Sized k gs → Each Bytes (flat gs) → ascend a b lo (flat gs) ≡ true
-    → p + length gs ≤ 65536
-    → Heads a b lo p (entriesFrom p gs) gs
-unfolding entriesFrom
-heads-from a b k lo p [] done q e h = none
-heads-from a b k lo p ([] ∷ gs) (more s t u) q e h = absurd (not-suc-le-zero s)
-heads-from a b k lo p ((r ∷ g) ∷ gs) (more s t u) (cons c q) e h =
+-- `entriesTo` makes such entries
+pub heads-from : (a b k lo : ℕ) (to : ℕ → ℕ) (i : ℕ) (gs : List (List (List ℕ))) → Sized k gs → Each Bytes (flat gs) → ascend a b lo (flat gs) ≡ true
+    → Paged to i (length gs) (λ p. p < 65536)
+    → Heads a b to lo i (entriesTo to i gs) gs
+unfolding entriesTo
+heads-from a b k lo to i [] done q e h = none
+heads-from a b k lo to i ([] ∷ gs) (more s t u) q e h = absurd (not-suc-le-zero s)
+heads-from a b k lo to i ((r ∷ g) ∷ gs) (more s t u) (cons c q) e h =
     let f : First a b lo r (g ++ flat gs) = ascend-facts a b lo r (g ++ flat gs) e in
     let hi : ℕ = above (keyOf r + 1) g in
     let both-parts = rw (ascend-append a b (keyOf r + 1) g (flat gs)) at (f .after) in
@@ -104,15 +108,15 @@ heads-from a b k lo p ((r ∷ g) ∷ gs) (more s t u) (cons c q) e h =
       inside = unfold above in (omega arith);
       over = omega arith;
     } in
-    head (entry-of (keyOf r) p small (omega arith)) (f .low) held
-    (heads-from a b k hi (p + 1) gs u (each-back g (flat gs) q) (both-2 _ _ both-parts) (omega arith))
+    head (entry-of (keyOf r) (to i) small (h i (omega arith) (omega arith))) (f .low) held
+    (heads-from a b k hi to (i + 1) gs u (each-back g (flat gs) q) (both-2 _ _ both-parts) (λ n l m. h n (omega arith) (omega arith)))
 
 -- and they stay such where the first key becomes 0
-pub heads-zero : (a b lo p : ℕ) (es : List (List ℕ)) (gs : List (List (List ℕ))) → Heads a b lo p es gs → p < 65536
-    → Heads a b 0 p (fromZero es) gs
+pub heads-zero : (a b lo : ℕ) (to : ℕ → ℕ) (i : ℕ) (es : List (List ℕ)) (gs : List (List (List ℕ))) → Heads a b to lo i es gs → to i < 65536
+    → Heads a b to 0 i (fromZero es) gs
 unfolding fromZero
-heads-zero a b lo p [] [] none h = none
-heads-zero a b lo p (e ∷ es) (g ∷ gs) (head {key = key} {hi = hi} x low held rest) h =
+heads-zero a b lo to i [] [] none h = none
+heads-zero a b lo to i (e ∷ es) (g ∷ gs) (head {key = key} {hi = hi} x low held rest) h =
     let zeroed : Held a b 0 hi g =
     record {
       order = ascend-lower a b key 0 g (omega arith) (held .order);
@@ -120,28 +124,28 @@ heads-zero a b lo p (e ∷ es) (g ∷ gs) (head {key = key} {hi = hi} x low held
       over = omega (arith, held .over);
     } in
     let least : 0 ≤ 0 = omega arith in
-    rw (x .to) (head (entry-of 0 p (omega arith) h) least zeroed rest)
+    rw (x .to) (head (entry-of 0 (to i) (omega arith) h) least zeroed rest)
 
 -- ---- what entries over groups are like
 
-module _ {a b : ℕ} where
+module _ {a b : ℕ} {to : ℕ → ℕ} where
   -- as many as there are groups
-  pub heads-length : {lo p : ℕ} {es : List (List ℕ)} {gs : List (List (List ℕ))} → Heads a b lo p es gs → length es ≡ length gs
+  pub heads-length : {lo i : ℕ} {es : List (List ℕ)} {gs : List (List (List ℕ))} → Heads a b to lo i es gs → length es ≡ length gs
   heads-length none = refl
   heads-length (head x low held rest) = ap suc (heads-length rest)
 
   -- eight bytes long
-  pub heads-long : {lo p : ℕ} {es : List (List ℕ)} {gs : List (List (List ℕ))} → Heads a b lo p es gs → Each (Long 8) es
+  pub heads-long : {lo i : ℕ} {es : List (List ℕ)} {gs : List (List (List ℕ))} → Heads a b to lo i es gs → Each (Long 8) es
   heads-long none = nil
   heads-long (head x low held rest) = cons (x .long) (heads-long rest)
 
   -- of bytes
-  pub heads-bytes : {lo p : ℕ} {es : List (List ℕ)} {gs : List (List (List ℕ))} → Heads a b lo p es gs → Each Bytes es
+  pub heads-bytes : {lo i : ℕ} {es : List (List ℕ)} {gs : List (List (List ℕ))} → Heads a b to lo i es gs → Each Bytes es
   heads-bytes none = nil
   heads-bytes (head x low held rest) = cons (x .bytes) (heads-bytes rest)
 
   -- their marks and the order of their keys
-  pub heads-ascend : {lo p : ℕ} {es : List (List ℕ)} {gs : List (List (List ℕ))} → Heads a b lo p es gs → ascend 101 110 lo es ≡ true
+  pub heads-ascend : {lo i : ℕ} {es : List (List ℕ)} {gs : List (List (List ℕ))} → Heads a b to lo i es gs → ascend 101 110 lo es ≡ true
   heads-ascend none = unfold ascend in refl
   heads-ascend {lo} (head {key = key} {hi = hi} {e = e} {es = es} x low held rest) =
       ascend-of 101 110 lo e es
@@ -153,35 +157,34 @@ module _ {a b : ℕ} where
       })
 
   -- the pages that they point to
-  pub heads-pointing : {lo p : ℕ} {es : List (List ℕ)} {gs : List (List (List ℕ))} (from to : ℕ) → Heads a b lo p es gs → from ≤ p
-      → p + length gs ≤ to + 1
-      → pointing from to es ≡ true
+  pub heads-pointing : {lo i : ℕ} {es : List (List ℕ)} {gs : List (List (List ℕ))} (first last : ℕ) → Heads a b to lo i es gs
+      → Paged to i (length gs) (λ p. (first ≤ p) × (p ≤ last))
+      → pointing first last es ≡ true
   unfolding pointing
-  heads-pointing from to none h k = refl
-  heads-pointing {p} from to (head x low held rest) h k =
+  heads-pointing first last none h = refl
+  heads-pointing {i = i} first last (head x low held rest) h =
+      let q = h i (omega arith) (omega arith) in
       rw (x .to)
-      (both-intro _ _ (le-leb from p h) (both-intro _ _ (le-leb p to (omega arith)) (heads-pointing from to rest (omega arith) (omega arith))))
+      (both-intro _ _ (le-leb first (to i) (q .0))
+      (both-intro _ _ (le-leb (to i) last (q .1)) (heads-pointing first last rest (λ n l m. h n (omega arith) (omega arith)))))
 
-  -- none points to a page before p
-  pub heads-before : {lo p : ℕ} {es : List (List ℕ)} {gs : List (List (List ℕ))} (q : ℕ) → Heads a b lo p es gs → q < p → pointers q es ≡ 0
-  unfolding pointers pick
-  heads-before q none h = refl
-  heads-before {p} q (head x low held rest) h = rw (x .to, ne-eqb p q (λ e. omega arith), heads-before q rest (omega arith))
-
-  -- none to a page behind those of the groups
-  pub heads-after : {lo p : ℕ} {es : List (List ℕ)} {gs : List (List (List ℕ))} (q : ℕ) → Heads a b lo p es gs → p + length gs ≤ q
+  -- none to a page that is no group's
+  pub heads-none : {lo i : ℕ} {es : List (List ℕ)} {gs : List (List (List ℕ))} (q : ℕ) → Heads a b to lo i es gs
+      → Paged to i (length gs) (λ p. p ≡ q → ⊥)
       → pointers q es ≡ 0
   unfolding pointers pick
-  heads-after q none h = refl
-  heads-after {p} q (head x low held rest) h = rw (x .to, ne-eqb p q (λ e. omega arith), heads-after q rest (omega arith))
+  heads-none q none h = refl
+  heads-none {i = i} q (head x low held rest) h =
+      rw (x .to, ne-eqb (to i) q (h i (omega arith) (omega arith)), heads-none q rest (λ n l m. h n (omega arith) (omega arith)))
 
-  -- and one to each of these
-  pub heads-once : {lo p : ℕ} {es : List (List ℕ)} {gs : List (List (List ℕ))} (q : ℕ) → Heads a b lo p es gs → p ≤ q → q < p + length gs
-      → pointers q es ≡ 1
+  -- and one to each group's, where no two have the same page
+  pub heads-once : {lo i : ℕ} {es : List (List ℕ)} {gs : List (List (List ℕ))} (k : ℕ) → ((m n : ℕ) → to m ≡ to n → m ≡ n) → Heads a b to lo i es gs
+      → i ≤ k → k < i + length gs
+      → pointers (to k) es ≡ 1
   unfolding pointers pick
-  heads-once q none h k = absurd (omega arith)
-  heads-once {p} q (head x low held rest) h k =
-      split p q
-      (λ l. rw (x .to, ne-eqb p q (λ e. omega arith), heads-once q rest (omega arith) (omega arith)))
-      (λ l. let e : p ≡ q = omega arith in
-      rw (x .to, eq-eqb p q e, heads-before q rest (omega arith)))
+  heads-once k apart none h l = absurd (omega arith)
+  heads-once {i = i} k apart (head x low held rest) h l =
+      split i k
+      (λ m. rw (x .to, ne-eqb (to i) (to k) (λ e. omega (arith, apart i k e)), heads-once k apart rest (omega arith) (omega arith)))
+      (λ m. let e : i ≡ k = omega arith in
+      rw (x .to, eq-eqb (to i) (to k) (ap to e), heads-none (to k) rest (λ n u v z. omega (arith, apart n k z))))

@@ -7,15 +7,17 @@ use mathlib.Core.Bool.{true}
 use mathlib.Core.List.{List, []}
 use lib.ListN.{length, getD}
 use Rattle.field.specs.Bytes.{Bytes}
-use Rattle.page.specs.Page.{root, base, leaf, empty, joined, ascendRecords, number}
+use Rattle.page.specs.Page.{root, base, leaf, empty, basePages, firstLeaf, lastLeaf, leafPages, joined, ascendRecords, number}
+use Rattle.page.specs.Places.{Leafy, place, basePlace}
 use Rattle.page.specs.Pages.{page, pages, allFormed}
 use Rattle.page.specs.Each.{Each, nil, Long}
 use Rattle.page.proofs.Rows.{each-at, length-joined, bytes-joined}
+use Rattle.page.proofs.Places.{base-place-in, place-in}
 use Rattle.page.proofs.Pages.{getD-pages}
 use Rattle.tree.specs.Tree.{wellFormed, allRecords}
-use Rattle.tree.specs.Layout.{entriesFrom, fromZero, leafGroups, baseGroups, layout}
+use Rattle.tree.specs.Layout.{entriesTo, fromZero, leafGroups, baseGroups, layout}
 use Rattle.laid.proofs.Groups.{flat, Sized, flat-groups, sized-groups, each-group, pointing-group, group-fill}
-use Rattle.laid.proofs.Heads.{Heads, heads-from, heads-zero, heads-length, heads-long, heads-bytes, heads-ascend, heads-pointing}
+use Rattle.laid.proofs.Heads.{Heads, Paged, heads-from, heads-zero, heads-length, heads-long, heads-bytes, heads-ascend, heads-pointing}
 use Rattle.laid.proofs.Under.{zero-first, from-starts, from-headed}
 use Rattle.laid.proofs.Sheet.{sheet, layout-sheet, each-sheet, length-sheet, pages-sheet}
 use Rattle.laid.proofs.Form.{Parts, fresh-bytes, sheet-whole, sheet-stamps, sheet-formed, sheet-records, sheet-well}
@@ -62,32 +64,35 @@ module _ (f g : ℕ) (rs : List (List ℕ)) (some-rows : 1 ≤ g) where
   -- each group of entries has one, and at most g
   base-sized : Sized g (baseGroups f g rs)
   unfolding baseGroups
-  base-sized = sized-groups (length (leafGroups f rs)) g (fromZero (entriesFrom 8 (leafGroups f rs))) some-rows
+  base-sized = sized-groups (length (leafGroups f rs)) g (fromZero (entriesTo place 0 (leafGroups f rs))) some-rows
 
   -- and they are the entries to the leaves
-  base-flat : length (fromZero (entriesFrom 8 (leafGroups f rs))) ≡ length (leafGroups f rs)
-      → flat (baseGroups f g rs) ≡ fromZero (entriesFrom 8 (leafGroups f rs))
+  base-flat : length (fromZero (entriesTo place 0 (leafGroups f rs))) ≡ length (leafGroups f rs)
+      → flat (baseGroups f g rs) ≡ fromZero (entriesTo place 0 (leafGroups f rs))
   unfolding baseGroups
-  base-flat e = flat-groups (length (leafGroups f rs)) g (fromZero (entriesFrom 8 (leafGroups f rs))) some-rows (omega arith)
+  base-flat e = flat-groups (length (leafGroups f rs)) g (fromZero (entriesTo place 0 (leafGroups f rs))) some-rows (omega arith)
 
 -- build's layout is a well-formed tree of the records, wherever the pages suffice
 pub layout-laws : (f g : ℕ) (rs : List (List ℕ)) → 1 ≤ f → f ≤ 15 → 1 ≤ g → g ≤ 30 → Each (Long 16) rs → Each Bytes rs
-    → ascendRecords 0 rs ≡ true → length (leafGroups f rs) ≤ 56 → length (baseGroups f g rs) ≤ 7
+    → ascendRecords 0 rs ≡ true → length (leafGroups f rs) ≤ leafPages → length (baseGroups f g rs) ≤ basePages
     → Laid (layout f g rs) rs
 layout-laws f g rs f1 f15 g1 g30 long bytes order most seven =
     let ls : List (List (List ℕ)) = leafGroups f rs in
-    let level : List (List ℕ) = fromZero (entriesFrom 8 ls) in
+    let level : List (List ℕ) = fromZero (entriesTo place 0 ls) in
     let bs : List (List (List ℕ)) = baseGroups f g rs in
-    let es : List (List ℕ) = entriesFrom 1 bs in
+    let es : List (List ℕ) = entriesTo basePlace 0 bs in
     let sl : Sized f ls = unfold leafGroups in sized-groups (length rs) f rs f1 in
     let fl : flat ls ≡ rs = unfold leafGroups in flat-groups (length rs) f rs f1 (omega arith) in
     let bl : Each Bytes (flat ls) = rw fl bytes in
-    let lower : Heads 114 99 0 8 level ls =
-    heads-zero 114 99 0 8 (entriesFrom 8 ls) ls (heads-from 114 99 f 0 8 ls sl bl (rw fl order) (omega arith)) (omega arith) in
+    let on-leaves : Paged place 0 (length ls) Leafy = λ k h l. place-in k (omega arith) in
+    let small : Paged place 0 (length ls) (λ p. p < 65536) = λ k h l. omega (arith, on-leaves k h l) in
+    let lower : Heads 114 99 place 0 0 level ls =
+    heads-zero 114 99 0 place 0 (entriesTo place 0 ls) ls (heads-from 114 99 f 0 place 0 ls sl bl (rw fl order) small) (omega (arith, place-in 0 (omega arith))) in
     let sb : Sized g bs = base-sized f g rs g1 in
     let fb : flat bs ≡ level = base-flat f g rs g1 (heads-length lower) in
     let bb : Each Bytes (flat bs) = rw fb (heads-bytes lower) in
-    let upper : Heads 101 110 0 1 es bs = heads-from 101 110 g 0 1 bs sb bb (rw fb (heads-ascend lower)) (omega arith) in
+    let low : Paged basePlace 0 (length bs) (λ p. p < 65536) = λ k h l. omega (arith, base-place-in k (omega arith)) in
+    let upper : Heads 101 110 basePlace 0 0 es bs = heads-from 101 110 g 0 basePlace 0 bs sb bb (rw fb (heads-ascend lower)) low in
     let t : Parts es level bs ls =
     record {
       seven = seven;
@@ -96,9 +101,9 @@ layout-laws f g rs f1 f15 g1 g30 long bytes order most seven =
       lower = lower;
       grouped = fb;
       bases = λ i h. group-fill base g i bs (omega arith) (omega arith) sb (rw fb (heads-long lower)) (rw fb (heads-ascend lower)) h;
-      pointed = λ i h. pointing-group 8 63 i bs (rw fb (heads-pointing 8 63 lower (omega arith) (omega arith))) h;
+      pointed = λ i h. pointing-group firstLeaf lastLeaf i bs (rw fb (heads-pointing firstLeaf lastLeaf lower on-leaves)) h;
       leaves = λ i h. group-fill leaf f i ls (omega arith) (omega arith) sl (rw fl long) (rw fl order) h;
-      starts = from-starts 1 g bs sb (rw fb (zero-first (entriesFrom 8 ls)));
-      heads = λ ps h. from-headed 1 g ps bs sb bb (omega arith) h;
+      starts = from-starts basePlace 0 g bs sb (rw fb (zero-first (entriesTo place 0 ls)));
+      heads = λ ps h. from-headed basePlace 0 g ps bs sb bb low h;
     } in
     rw (layout-sheet f g rs) (rw fl at (laid-joined es level bs ls t bb bl))

@@ -7,11 +7,13 @@ use mathlib.Core.List.{List, [], _∷_, _++_, map, append-nil}
 use lib.ListN.{length, getD, replicate, length-append, length-replicate, getD-replicate, length-map, List·getD-append}
 use lib.Seq.{getD-append-add}
 use Rattle.field.proofs.Part.{split}
-use Rattle.page.specs.Page.{Kind, root, base, leaf, empty, joined, rowsOf}
+use Rattle.page.specs.Page.{Kind, root, base, leaf, empty, firstBase, basePages, firstLeaf, leafPages, joined, rowsOf}
+use Rattle.page.specs.Places.{place, basePlace}
 use Rattle.page.specs.Pages.{pages}
 use Rattle.page.specs.Each.{Each, nil, cons, Long}
+use Rattle.page.proofs.Places.{place-of}
 use Rattle.page.proofs.Rows.{each-append, joined-append, rowsOf-joined}
-use Rattle.tree.specs.Layout.{fresh, filled, layout, leafGroups, baseGroups, entriesFrom}
+use Rattle.tree.specs.Layout.{fresh, filled, layout, leafGroups, baseGroups, entriesTo}
 
 -- ---- n pages: one for each group, then empty ones
 
@@ -70,18 +72,18 @@ each-run {P} n k gs f e = each-append (mapped gs f) (same (n - length gs))
 
 -- ---- the 64 pages
 
--- the root, 7 base pages, 56 leaf pages
+-- the root, base pages, leaf pages
 unfoldable pub sheet : (es : List (List ℕ)) (bs ls : List (List (List ℕ))) → List (List ℕ)
-sheet es bs ls = fresh root es ∷ (run 7 base bs ++ run 56 leaf ls)
+sheet es bs ls = fresh root es ∷ (run basePages base bs ++ run leafPages leaf ls)
 
 -- joined, they are the layout
 pub layout-sheet : (f g : ℕ) (rs : List (List ℕ))
-    → layout f g rs ≡ joined (sheet (entriesFrom 1 (baseGroups f g rs)) (baseGroups f g rs) (leafGroups f rs))
+    → layout f g rs ≡ joined (sheet (entriesTo basePlace 0 (baseGroups f g rs)) (baseGroups f g rs) (leafGroups f rs))
 unfolding layout sheet joined
 layout-sheet f g rs =
     let bs : List (List (List ℕ)) = baseGroups f g rs in
     let ls : List (List (List ℕ)) = leafGroups f rs in
-    rw (joined-append (run 7 base bs) (run 56 leaf ls), joined-run 7 base bs, joined-run 56 leaf ls)
+    rw (joined-append (run basePages base bs) (run leafPages leaf ls), joined-run basePages base bs, joined-run leafPages leaf ls)
 
 module _ (es : List (List ℕ)) (bs ls : List (List (List ℕ))) where
   -- what holds of every page that is not behind its groups, and of an empty one, holds of each
@@ -89,15 +91,15 @@ module _ (es : List (List ℕ)) (bs ls : List (List (List ℕ))) where
       → ((i : ℕ) → i < length ls → P (fresh leaf (getD ls i []))) → P (fresh empty [])
       → Each P (sheet es bs ls)
   unfolding sheet
-  each-sheet r b l e = cons r (each-append (each-run 7 base bs b e) (each-run 56 leaf ls l e))
+  each-sheet r b l e = cons r (each-append (each-run basePages base bs b e) (each-run leafPages leaf ls l e))
 
-  module _ (seven : length bs ≤ 7) (most : length ls ≤ 56) where
+  module _ (seven : length bs ≤ basePages) (most : length ls ≤ leafPages) where
     -- 64 of them
     pub length-sheet : length (sheet es bs ls) ≡ 64
     unfolding sheet
     length-sheet =
         ap suc
-        (length-append (run 7 base bs) (run 56 leaf ls) ∙ ap₂ (λ (x y : ℕ). x + y) (length-run 7 base bs seven) (length-run 56 leaf ls most))
+        (length-append (run basePages base bs) (run leafPages leaf ls) ∙ ap₂ (λ (x y : ℕ). x + y) (length-run basePages base bs seven) (length-run leafPages leaf ls most))
 
     -- 64 pages joined are those pages
     pub pages-sheet : Each (Long 256) (sheet es bs ls) → pages (joined (sheet es bs ls)) ≡ sheet es bs ls
@@ -108,42 +110,42 @@ module _ (es : List (List ℕ)) (bs ls : List (List (List ℕ))) where
         ∙ ap (rowsOf 256 (length ps)) (sym (append-nil (joined ps)))
         ∙ rowsOf-joined 256 ps [] p
 
-    -- the base pages are pages 1 to 7
-    pub sheet-base : (i : ℕ) → i < 7 → getD (sheet es bs ls) (1 + i) [] ≡ getD (run 7 base bs) i []
-    unfolding sheet
+    -- the base pages behind the root
+    pub sheet-base : (i : ℕ) → i < basePages → getD (sheet es bs ls) (basePlace i) [] ≡ getD (run basePages base bs) i []
+    unfolding sheet basePlace
     sheet-base i h =
-        let e : 1 + i ≡ suc i = omega arith in
-        rw e (List·getD-append (run 7 base bs) (run 56 leaf ls) [] i (rw (length-run 7 base bs seven) h))
+        let e : firstBase + i ≡ suc i = omega arith in
+        rw e (List·getD-append (run basePages base bs) (run leafPages leaf ls) [] i (rw (length-run basePages base bs seven) h))
 
-    -- the leaf pages follow from page 8 on
-    pub sheet-leaf : (i : ℕ) → getD (sheet es bs ls) (8 + i) [] ≡ getD (run 56 leaf ls) i []
-    unfolding sheet
+    -- the leaf pages behind these
+    pub sheet-leaf : (i : ℕ) → getD (sheet es bs ls) (place i) [] ≡ getD (run leafPages leaf ls) i []
+    unfolding sheet place
     sheet-leaf i =
-        let e : 8 + i ≡ suc (length (run 7 base bs) + i) = rw (length-run 7 base bs seven) (omega arith) in
-        rw e (getD-append-add (run 7 base bs) (run 56 leaf ls) i [])
+        let e : firstLeaf + i ≡ suc (length (run basePages base bs) + i) = rw (length-run basePages base bs seven) (omega arith) in
+        rw e (getD-append-add (run basePages base bs) (run leafPages leaf ls) i [])
 
     -- what holds of each page in its place holds of page q
     pub places : (P : ℕ → List ℕ → Type 0) → P 0 (fresh root es)
-        → ((i : ℕ) → i < length bs → P (1 + i) (fresh base (getD bs i [])))
-        → ((i : ℕ) → length bs ≤ i → i < 7 → P (1 + i) (fresh empty []))
-        → ((i : ℕ) → i < length ls → P (8 + i) (fresh leaf (getD ls i [])))
-        → ((i : ℕ) → length ls ≤ i → i < 56 → P (8 + i) (fresh empty []))
+        → ((i : ℕ) → i < length bs → P (basePlace i) (fresh base (getD bs i [])))
+        → ((i : ℕ) → length bs ≤ i → i < basePages → P (basePlace i) (fresh empty []))
+        → ((i : ℕ) → i < length ls → P (place i) (fresh leaf (getD ls i [])))
+        → ((i : ℕ) → length ls ≤ i → i < leafPages → P (place i) (fresh empty []))
         → (q : ℕ) → q < 64
         → P q (getD (sheet es bs ls) q [])
     places P r b eb l el q h =
         split q 1
         (λ z. let e : q ≡ 0 = omega arith in
         rw e (unfold sheet in r))
-        (λ z. split q 8
-        (λ k. let i : ℕ = q - 1 in
-        let e : 1 + i ≡ q = omega arith in
+        (λ z. split q firstLeaf
+        (λ k. let i : ℕ = q - firstBase in
+        let e : basePlace i ≡ q = unfold basePlace in omega arith in
         rw (← e, sheet-base i (omega arith))
         (split i (length bs)
-        (λ m. rw (run-full 7 base bs i m) (b i m))
-        (λ m. rw (run-empty 7 base bs i m (omega arith)) (eb i m (omega arith)))))
-        (λ k. let i : ℕ = q - 8 in
-        let e : 8 + i ≡ q = omega arith in
+        (λ m. rw (run-full basePages base bs i m) (b i m))
+        (λ m. rw (run-empty basePages base bs i m (omega arith)) (eb i m (omega arith)))))
+        (λ k. let i : ℕ = q - firstLeaf in
+        let e : place i ≡ q = place-of q k in
         rw (← e, sheet-leaf i)
         (split i (length ls)
-        (λ m. rw (run-full 56 leaf ls i m) (l i m))
-        (λ m. rw (run-empty 56 leaf ls i m (omega arith)) (el i m (omega arith))))))
+        (λ m. rw (run-full leafPages leaf ls i m) (l i m))
+        (λ m. rw (run-empty leafPages leaf ls i m (omega arith)) (el i m (omega arith))))))

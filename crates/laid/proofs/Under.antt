@@ -16,28 +16,23 @@ use Rattle.page.specs.Change.{above}
 use Rattle.page.specs.Each.{Each, cons}
 use Rattle.page.proofs.Order.{First, ascend-facts}
 use Rattle.tree.specs.Tree.{under, below, startsAtZero, headed, lower, keysBetween, keysKept}
-use Rattle.tree.specs.Layout.{entriesFrom, fromZero}
+use Rattle.tree.specs.Layout.{entriesTo, fromZero}
 use Rattle.laid.proofs.Groups.{flat, Sized, done, more, each-back}
-use Rattle.laid.proofs.Heads.{Entry, key-entry, entry-of, Heads, none, head, above-least}
+use Rattle.laid.proofs.Heads.{Entry, key-entry, entry-of, Heads, none, head, Paged, above-least}
 
--- the pages of ps from p on hold the groups, as rows of sz bytes
-abbrev pub Holds : (sz : ℕ) (ps : List (List ℕ)) (p : ℕ) → List (List (List ℕ)) → Type 0
-Holds sz ps p gs = (i : ℕ) → i < length gs → rows sz (getD ps (p + i) []) ≡ getD gs i []
+-- the pages of ps hold the groups, the first being group i, as rows of sz bytes
+abbrev pub Holds : (sz : ℕ) (ps : List (List ℕ)) (to : ℕ → ℕ) (i : ℕ) → List (List (List ℕ)) → Type 0
+Holds sz ps to i gs = (k : ℕ) → k < length gs → rows sz (getD ps (to (i + k)) []) ≡ getD gs k []
 
--- the first of them
-holds-first : (sz p : ℕ) (ps g : List (List ℕ)) (gs : List (List (List ℕ))) → Holds sz ps p (g ∷ gs) → rows sz (getD ps p []) ≡ g
-holds-first sz p ps g gs h = rw (add-zero p) at (h 0 (omega arith))
+module _ (sz : ℕ) (to : ℕ → ℕ) (i : ℕ) (ps g : List (List ℕ)) (gs : List (List (List ℕ))) (h : Holds sz ps to i (g ∷ gs)) where
+  -- all but the first
+  holds-rest : Holds sz ps to (i + 1) gs
+  holds-rest k l = let e : i + 1 + k ≡ i + suc k = omega arith in rw e (h (suc k) (omega arith))
 
--- and the others
-holds-rest : (sz p : ℕ) (ps g : List (List ℕ)) (gs : List (List (List ℕ))) → Holds sz ps p (g ∷ gs) → Holds sz ps (p + 1) gs
-holds-rest sz p ps g gs h i k = let e : p + 1 + i ≡ p + suc i = omega arith in rw e (h (suc i) (omega arith))
-
--- the rows under an entry
-rows-under : (sz p : ℕ) (ps : List (List ℕ)) (e : List ℕ) (g : List (List ℕ)) (gs : List (List (List ℕ))) → toPage e ≡ p
-    → Holds sz ps p (g ∷ gs)
-    → rows sz (under ps e) ≡ g
-unfolding under
-rows-under sz p ps e g gs t h = rw t (holds-first sz p ps g gs h)
+  -- the rows under an entry to the first
+  rows-under : (e : List ℕ) → toPage e ≡ to i → rows sz (under ps e) ≡ g
+  unfolding under
+  rows-under e t = rw t (rw (add-zero i) at (h 0 (omega arith)))
 
 -- keys of rows in order, all below hi, stand between an entry's key and a next entry's that is hi or more
 between : (a b lo at hi : ℕ) (next g : List (List ℕ)) → ((x : ℕ) → x < hi → lower x next ≡ true) → lo ≤ at → ascend a b at g ≡ true
@@ -51,46 +46,46 @@ between a b lo at hi next (r ∷ g) n h e k =
     (both-intro _ _ (n (keyOf r) (omega (arith, above-least a b (keyOf r + 1) g (f .after))))
     (between a b lo (keyOf r + 1) hi next g n (omega (arith, f .low)) (f .after) k))
 
-module _ {a b : ℕ} where
+module _ {a b : ℕ} {to : ℕ → ℕ} where
   -- a key below the entries' least is lower than the first of them
-  heads-lower : {lo p : ℕ} {es : List (List ℕ)} {gs : List (List (List ℕ))} (x : ℕ) → Heads a b lo p es gs → x < lo → lower x es ≡ true
+  heads-lower : {lo i : ℕ} {es : List (List ℕ)} {gs : List (List (List ℕ))} (x : ℕ) → Heads a b to lo i es gs → x < lo → lower x es ≡ true
   unfolding lower
   heads-lower x none h = refl
   heads-lower x (head {key = key} y low held rest) h = rw (y .keyed) (lt-ltb x key (omega arith))
 
   module _ (sz : ℕ) (ps : List (List ℕ)) where
     -- the rows below the entries are those of the groups
-    pub heads-below : {lo p : ℕ} {es : List (List ℕ)} {gs : List (List (List ℕ))} → Heads a b lo p es gs → Holds sz ps p gs
+    pub heads-below : {lo i : ℕ} {es : List (List ℕ)} {gs : List (List (List ℕ))} → Heads a b to lo i es gs → Holds sz ps to i gs
         → below sz ps es ≡ flat gs
     unfolding below
     heads-below none h = refl
-    heads-below {p} (head {e = e} {g = g} {gs = gs} x low held rest) h =
-        rw (rows-under sz p ps e g gs (x .to) h, heads-below rest (holds-rest sz p ps g gs h))
+    heads-below {i = i} (head {e = e} {g = g} {gs = gs} x low held rest) h =
+        rw (rows-under sz to i ps g gs h e (x .to), heads-below rest (holds-rest sz to i ps g gs h))
 
     -- and their keys stand between the entries'
-    pub heads-kept : {lo p : ℕ} {es : List (List ℕ)} {gs : List (List (List ℕ))} → Heads a b lo p es gs → Holds sz ps p gs
+    pub heads-kept : {lo i : ℕ} {es : List (List ℕ)} {gs : List (List (List ℕ))} → Heads a b to lo i es gs → Holds sz ps to i gs
         → keysKept sz ps es ≡ true
     unfolding keysKept
     heads-kept none h = refl
-    heads-kept {p} (head {key = key} {hi = hi} {e = e} {es = es} {g = g} {gs = gs} x low held rest) h =
-        rw (x .keyed, rows-under sz p ps e g gs (x .to) h)
+    heads-kept {i = i} (head {key = key} {hi = hi} {e = e} {es = es} {g = g} {gs = gs} x low held rest) h =
+        rw (x .keyed, rows-under sz to i ps g gs h e (x .to))
         (both-intro _ _
         (between a b key key hi es g (λ y k. heads-lower y rest k) (omega arith) (held .order) (held .inside))
-        (heads-kept rest (holds-rest sz p ps g gs h)))
+        (heads-kept rest (holds-rest sz to i ps g gs h)))
 
--- a base page's first key is that of the entry which `entriesFrom` makes for it
-pub from-headed : (p k : ℕ) (ps : List (List ℕ)) (gs : List (List (List ℕ))) → Sized k gs → Each Bytes (flat gs) → p + length gs ≤ 65536
-    → Holds 8 ps p gs
-    → headed ps (entriesFrom p gs) ≡ true
-unfolding headed entriesFrom
-from-headed p k ps [] done q h held = refl
-from-headed p k ps ([] ∷ gs) (more s t u) q h held = absurd (not-suc-le-zero s)
-from-headed p k ps ((r ∷ g) ∷ gs) (more s t u) (cons c q) h held =
+-- a base page's first key is that of the entry which `entriesTo` makes for it
+pub from-headed : (to : ℕ → ℕ) (i k : ℕ) (ps : List (List ℕ)) (gs : List (List (List ℕ))) → Sized k gs → Each Bytes (flat gs)
+    → Paged to i (length gs) (λ p. p < 65536) → Holds 8 ps to i gs
+    → headed ps (entriesTo to i gs) ≡ true
+unfolding headed entriesTo
+from-headed to i k ps [] done q h held = refl
+from-headed to i k ps ([] ∷ gs) (more s t u) q h held = absurd (not-suc-le-zero s)
+from-headed to i k ps ((r ∷ g) ∷ gs) (more s t u) (cons c q) h held =
     let small : keyOf r < 4294967296 = unfold keyOf in le4-small r 2 c in
-    let x : Entry (keyOf r) p (entry (keyOf r) p) = entry-of (keyOf r) p small (omega arith) in
-    rw (rows-under 8 p ps (entry (keyOf r) p) (r ∷ g) gs (x .to) held)
-    (both-intro _ _ (eq-eqb (keyOf r) (keyOf (entry (keyOf r) p)) (sym (x .keyed)))
-    (from-headed (p + 1) k ps gs u (each-back g (flat gs) q) (omega arith) (holds-rest 8 p ps (r ∷ g) gs held)))
+    let x : Entry (keyOf r) (to i) (entry (keyOf r) (to i)) = entry-of (keyOf r) (to i) small (h i (omega arith) (omega arith)) in
+    rw (rows-under 8 to i ps (r ∷ g) gs held (entry (keyOf r) (to i)) (x .to))
+    (both-intro _ _ (eq-eqb (keyOf r) (keyOf (entry (keyOf r) (to i))) (sym (x .keyed)))
+    (from-headed to (i + 1) k ps gs u (each-back g (flat gs) q) (λ n l m. h n (omega arith) (omega arith)) (holds-rest 8 to i ps (r ∷ g) gs held)))
 
 -- an entry with key 0
 zero-key : (p : ℕ) → keyOf (entry 0 p) ≡ 0
@@ -103,9 +98,9 @@ zero-first [] = unfold keyOf le4 in refl
 zero-first (e ∷ es) = zero-key (toPage e)
 
 -- and so has the first entry over such entries
-pub from-starts : (p k : ℕ) (gs : List (List (List ℕ))) → Sized k gs → keyOf (getD (flat gs) 0 []) ≡ 0
-    → startsAtZero (entriesFrom p gs) ≡ true
-unfolding startsAtZero entriesFrom
-from-starts p k [] done e = refl
-from-starts p k ([] ∷ gs) (more s t u) e = absurd (not-suc-le-zero s)
-from-starts p k ((r ∷ g) ∷ gs) (more s t u) e = rw e (eq-eqb (keyOf (entry 0 p)) 0 (zero-key p))
+pub from-starts : (to : ℕ → ℕ) (i k : ℕ) (gs : List (List (List ℕ))) → Sized k gs → keyOf (getD (flat gs) 0 []) ≡ 0
+    → startsAtZero (entriesTo to i gs) ≡ true
+unfolding startsAtZero entriesTo
+from-starts to i k [] done e = refl
+from-starts to i k ([] ∷ gs) (more s t u) e = absurd (not-suc-le-zero s)
+from-starts to i k ((r ∷ g) ∷ gs) (more s t u) e = rw e (eq-eqb (keyOf (entry 0 (to i))) 0 (zero-key (to i)))

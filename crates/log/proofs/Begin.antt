@@ -10,8 +10,9 @@ use borrow.Author.Tests.{eqb-true, leb-true}
 use Rattle.field.specs.Test.{both, pick}
 use Rattle.field.specs.Bytes.{most4}
 use Rattle.field.proofs.Test.{both-1, both-2, all-head, all-tail}
+use Rattle.page.specs.Page.{firstLeaf, lastLeaf}
 use Rattle.log.specs.Record.{Begin, LB}
-use Rattle.log.specs.Log.{within, compactOk, swapOk, moveOk, typeOk, beginOk}
+use Rattle.log.specs.Log.{within, onBases, onLeaves, compactOk, swapOk, moveOk, typeOk, beginOk}
 use Rattle.log.proofs.Record.{Narrow}
 
 -- the numbers of a begin record that its type bounds
@@ -20,7 +21,7 @@ pub record Limits (g : Begin) : Type 0 where
   pub fill : g .fill ≤ 15
   pub bases : length (g .bases) ≤ 2
   pub leaves : length (g .leaves) ≤ 8
-  pub dest : g .dest ≤ 63
+  pub dest : g .dest ≤ lastLeaf
 
 -- a listed page lies in its region
 pub within-head : (from to p : ℕ) (ps : List ℕ) → within from to (p ∷ ps) ≡ true → (from ≤ p) × (p ≤ to)
@@ -49,7 +50,7 @@ module _ (g : Begin) where
         fill = leb-true (g .fill) 15 (all-head _ _ e4);
         bases = omega (arith, eqb-true (length (g .bases)) 1 (all-head _ _ e));
         leaves = leb-true (length (g .leaves)) 8 (all-head _ _ e2);
-        dest = within-head 8 63 (g .dest) [] (all-head _ _ e5) .1;
+        dest = within-head firstLeaf lastLeaf (g .dest) [] (all-head _ _ e5) .1;
       }
 
   -- of a swap
@@ -80,7 +81,7 @@ module _ (g : Begin) where
         fill = omega (arith, eqb-true (g .fill) 0 (all-head _ _ e2));
         bases = omega (arith, eqb-true (length (g .bases)) 1 (all-head _ _ e));
         leaves = omega (arith, eqb-true (length (g .leaves)) 1 (all-head _ _ e1));
-        dest = within-head 8 63 (g .dest) [] (all-head _ _ e3) .1;
+        dest = within-head firstLeaf lastLeaf (g .dest) [] (all-head _ _ e3) .1;
       }
 
   -- one test or the other
@@ -112,12 +113,12 @@ module _ (g : Begin) where
     beginOk-limits = typeOk-limits (all-head _ _ (all-tail _ _ ok))
 
     -- its base pages are base pages
-    pub beginOk-bases : within 1 7 (g .bases) ≡ true
+    pub beginOk-bases : onBases (g .bases) ≡ true
     unfolding beginOk
     beginOk-bases = all-head _ _ (all-tail _ _ (all-tail _ _ ok))
 
     -- its leaves are leaf pages
-    pub beginOk-leaves : within 8 63 (g .leaves) ≡ true
+    pub beginOk-leaves : onLeaves (g .leaves) ≡ true
     unfolding beginOk
     beginOk-leaves = all-head _ _ (all-tail _ _ (all-tail _ _ (all-tail _ _ (all-tail _ _ ok))))
 

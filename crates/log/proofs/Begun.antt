@@ -19,7 +19,7 @@ use Rattle.page.specs.Each.{Each}
 use Rattle.log.specs.Record.{Begin, Rec, LB, begin, lengthOf, kindOf, carried, size, header, fields, body, previous, encode}
 use Rattle.log.specs.Table.{kinds, kindAt}
 use Rattle.log.specs.Write.{unitHead}
-use Rattle.log.specs.Log.{within, differ, compactOk, swapOk, moveOk, typeOk, beginOk, readFields, readBegin}
+use Rattle.log.specs.Log.{onBases, onLeaves, differ, compactOk, swapOk, moveOk, typeOk, beginOk, readFields, readBegin}
 use Rattle.log.specs.Stand.{stands, spareZero, standsBegin}
 use Rattle.log.proofs.Record.{Sized, length-fields}
 use Rattle.log.proofs.Begin.{Limits, typeOk-limits, beginOk-limits}
@@ -75,7 +75,7 @@ module _ (m : List ℕ) where
 
   beginTests : (b c : ℕ) → List Bool
   beginTests b c =
-      typeOk (readBegin 0 m) ∷ within 1 7 (readFields b (drop 20 m)) ∷ differ (readFields b (drop 20 m)) ∷ within 8 63 (readFields c (drop 24 m)) ∷ differ (readFields c (drop 24 m)) ∷ []
+      typeOk (readBegin 0 m) ∷ onBases (readFields b (drop 20 m)) ∷ differ (readFields b (drop 20 m)) ∷ onLeaves (readFields c (drop 24 m)) ∷ differ (readFields c (drop 24 m)) ∷ []
 
   begin-is : all (beginTests (getD m 18 0) (getD m 19 0)) ≡ beginOk (readBegin 0 m)
   unfolding beginTests beginOk readBegin all both
@@ -86,7 +86,7 @@ module _ (m : List ℕ) where
   begin-type! z e h = all-fail (beginTests (getD m 18 0) (getD m 19 0)) 0 (sym e ∙ not-true z h) ∙ begin-is
 
   module _ (b : ℕ) (pb : b ≡ getD m 18 0) (z : Bool) where
-    pub begin-bases! : z ≡ within 1 7 (readFields b (drop 20 m)) → not z ≡ true → false ≡ beginOk (readBegin 0 m)
+    pub begin-bases! : z ≡ onBases (readFields b (drop 20 m)) → not z ≡ true → false ≡ beginOk (readBegin 0 m)
     unfolding beginTests
     begin-bases! e h = all-fail (beginTests (getD m 18 0) (getD m 19 0)) 1 (rw (← pb) (sym e ∙ not-true z h)) ∙ begin-is
 
@@ -94,13 +94,13 @@ module _ (m : List ℕ) where
     unfolding beginTests
     begin-differ! e h = all-fail (beginTests (getD m 18 0) (getD m 19 0)) 2 (rw (← pb) (sym e ∙ not-true z h)) ∙ begin-is
 
-  pub begin-leaves! : (c : ℕ) (pc : c ≡ getD m 19 0) (z : Bool) → z ≡ within 8 63 (readFields c (drop 24 m)) → not z ≡ true → false ≡ beginOk (readBegin 0 m)
+  pub begin-leaves! : (c : ℕ) (pc : c ≡ getD m 19 0) (z : Bool) → z ≡ onLeaves (readFields c (drop 24 m)) → not z ≡ true → false ≡ beginOk (readBegin 0 m)
   unfolding beginTests
   begin-leaves! c pc z e h = all-fail (beginTests (getD m 18 0) (getD m 19 0)) 3 (rw (← pc) (sym e ∙ not-true z h)) ∙ begin-is
 
   pub begin-rest! : (b : ℕ) (pb : b ≡ getD m 18 0) (c : ℕ) (pc : c ≡ getD m 19 0) (z : Bool) → z ≡ differ (readFields c (drop 24 m))
-      → (t : Bool) → t ≡ typeOk (readBegin 0 m) → not t ≡ false → (u : Bool) → u ≡ within 1 7 (readFields b (drop 20 m)) → not u ≡ false
-      → (v : Bool) → v ≡ differ (readFields b (drop 20 m)) → not v ≡ false → (w : Bool) → w ≡ within 8 63 (readFields c (drop 24 m)) → not w ≡ false
+      → (t : Bool) → t ≡ typeOk (readBegin 0 m) → not t ≡ false → (u : Bool) → u ≡ onBases (readFields b (drop 20 m)) → not u ≡ false
+      → (v : Bool) → v ≡ differ (readFields b (drop 20 m)) → not v ≡ false → (w : Bool) → w ≡ onLeaves (readFields c (drop 24 m)) → not w ≡ false
       → z ≡ beginOk (readBegin 0 m)
   unfolding beginTests all both
   begin-rest! b pb c pc z e t et ht u eu hu v ev hv w ew hw =

@@ -13,18 +13,18 @@ use Rattle.field.specs.Bytes.{le2}
 use Rattle.field.proofs.Test.{both-end}
 use Rattle.field.proofs.Number.{le2-drop}
 use Rattle.log.specs.Record.{Begin}
-use Rattle.log.specs.Log.{within, listed, compactOk, swapOk, moveOk, typeOk, readFields, readBegin}
+use Rattle.log.specs.Log.{onLeaves, listed, compactOk, swapOk, moveOk, typeOk, readFields, readBegin}
 use Rattle.log.proofs.Fields.{all-fail, length-readFields, getD-readFields}
 
 module _ (m : List ℕ) where
   -- the destination lies among the leaf pages
-  dest-in : within 8 63 (le2 m 40 ∷ []) ≡ within 8 63 (readFields 1 (drop 40 m))
+  dest-in : onLeaves (le2 m 40 ∷ []) ≡ onLeaves (readFields 1 (drop 40 m))
   unfolding readFields
   dest-in = rw (le2-drop 40 0 m)
 
   compactTests : List Bool
   compactTests =
-      eqb (getD m 18 0) 1 ∷ leb 2 (getD m 19 0) ∷ leb (getD m 19 0) 8 ∷ leb 1 (getD m 17 0) ∷ leb (getD m 17 0) 15 ∷ within 8 63 (readFields 1 (drop 40 m))
+      eqb (getD m 18 0) 1 ∷ leb 2 (getD m 19 0) ∷ leb (getD m 19 0) 8 ∷ leb 1 (getD m 17 0) ∷ leb (getD m 17 0) 15 ∷ onLeaves (readFields 1 (drop 40 m))
       ∷ pick (eqb (le2 m 40) (getD (readFields (getD m 19 0) (drop 24 m)) 0 0)) true (not (listed (le2 m 40) (readFields (getD m 19 0) (drop 24 m)))) ∷ []
 
   compact-is : all compactTests ≡ compactOk (readBegin 0 m)
@@ -51,12 +51,12 @@ module _ (m : List ℕ) where
   unfolding compactTests
   compact-high! v q f = all-fail compactTests 4 (rw (← q) (lt-leb v 15 f)) ∙ compact-is
 
-  pub compact-dest! : (z : Bool) → z ≡ within 8 63 (readFields 1 (drop 40 m)) → not z ≡ true → false ≡ compactOk (readBegin 0 m)
+  pub compact-dest! : (z : Bool) → z ≡ onLeaves (readFields 1 (drop 40 m)) → not z ≡ true → false ≡ compactOk (readBegin 0 m)
   unfolding compactTests
   compact-dest! z q f = all-fail compactTests 5 (sym q ∙ not-true z f) ∙ compact-is
 
   module _ (a : ℕ) (pa : a ≡ getD m 18 0) (ha : a ≡ 1) (b : ℕ) (pb : b ≡ getD m 19 0) (hb : 2 ≤ b) (kb : b ≤ 8) (f : ℕ) (pf : f ≡ getD m 17 0) (hf : 1 ≤ f) (kf : f ≤ 15)
-      (z : Bool) (pz : z ≡ within 8 63 (readFields 1 (drop 40 m))) (hz : not z ≡ false) (d : ℕ) (pd : d ≡ le2 m 40) (e : ℕ) (pe : e ≡ le2 m 24) where
+      (z : Bool) (pz : z ≡ onLeaves (readFields 1 (drop 40 m))) (hz : not z ≡ false) (d : ℕ) (pd : d ≡ le2 m 40) (e : ℕ) (pe : e ≡ le2 m 24) where
     so-far : compactOk (readBegin 0 m) ≡ pick (eqb d e) true (not (listed d (readFields b (drop 24 m))))
     unfolding compactTests all both
     so-far =
@@ -107,7 +107,7 @@ module _ (m : List ℕ) where
 
   moveTests : List Bool
   moveTests =
-      eqb (getD m 18 0) 1 ∷ eqb (getD m 19 0) 1 ∷ eqb (getD m 17 0) 0 ∷ within 8 63 (readFields 1 (drop 40 m))
+      eqb (getD m 18 0) 1 ∷ eqb (getD m 19 0) 1 ∷ eqb (getD m 17 0) 0 ∷ onLeaves (readFields 1 (drop 40 m))
       ∷ not (listed (le2 m 40) (readFields (getD m 19 0) (drop 24 m))) ∷ []
 
   move-is : all moveTests ≡ moveOk (readBegin 0 m)
@@ -126,12 +126,12 @@ module _ (m : List ℕ) where
   unfolding moveTests
   move-fill! v q f = all-fail moveTests 2 (ne-eqb (getD m 17 0) 0 (λ z. f (q ∙ z))) ∙ move-is
 
-  pub move-dest! : (z : Bool) → z ≡ within 8 63 (readFields 1 (drop 40 m)) → not z ≡ true → false ≡ moveOk (readBegin 0 m)
+  pub move-dest! : (z : Bool) → z ≡ onLeaves (readFields 1 (drop 40 m)) → not z ≡ true → false ≡ moveOk (readBegin 0 m)
   unfolding moveTests
   move-dest! z q f = all-fail moveTests 3 (sym q ∙ not-true z f) ∙ move-is
 
   pub move-rest! : (a : ℕ) (pa : a ≡ getD m 18 0) (ha : a ≡ 1) (b : ℕ) (pb : b ≡ getD m 19 0) (hb : b ≡ 1) (f : ℕ) (pf : f ≡ getD m 17 0) (hf : f ≡ 0)
-      (z : Bool) (pz : z ≡ within 8 63 (readFields 1 (drop 40 m))) (hz : not z ≡ false) (d : ℕ) (pd : d ≡ le2 m 40)
+      (z : Bool) (pz : z ≡ onLeaves (readFields 1 (drop 40 m))) (hz : not z ≡ false) (d : ℕ) (pd : d ≡ le2 m 40)
       (y : Bool) (py : y ≡ listed d (readFields 1 (drop 24 m))) → not y ≡ moveOk (readBegin 0 m)
   unfolding moveTests all both
   move-rest! a pa ha b pb hb f pf hf z pz hz d pd y py =

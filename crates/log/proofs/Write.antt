@@ -17,7 +17,7 @@ use Rattle.field.proofs.Test.{all-nil, all-intro, pick-true, pick-false, when-t
 use Rattle.field.proofs.Number.{le2-drop, le4-drop, le2-bytes2, le4-bytes4}
 use Rattle.field.proofs.Zero.{all-zeroes}
 use Rattle.field.proofs.Same.{starts-append}
-use Rattle.page.specs.Page.{joined}
+use Rattle.page.specs.Page.{joined, firstBase, lastBase, firstLeaf, lastLeaf}
 use Rattle.page.proofs.Rows.{rowsOf-joined}
 use Rattle.log.specs.Record.{lengthOf, Check, Begin, Rec, LB, LO, LM, size, header, fields, lkBytes, encodeCheck, newKey, body, encode, encodeAll}
 use Rattle.log.specs.Plan.{Step}
@@ -72,9 +72,9 @@ module _ (n : ℕ) (g : Begin) (rest : List ℕ) (ok : beginOk g ≡ true) where
       let l : List ℕ = encode n (LB g) ++ rest in
       let m : Limits g = beginOk-limits g ok in
       let bs : readFields (getD l 18 0) (drop 20 l) ≡ g .bases =
-      rw (four-on .2, bases-on) (readFields-fields 1 7 2 (g .bases) (fields 8 (g .leaves) ++ (bytes2 (g .dest) ++ (bytes2 0 ++ rest))) (omega arith) (m .bases) (beginOk-bases g ok)) in
+      rw (four-on .2, bases-on) (readFields-fields firstBase lastBase 2 (g .bases) (fields 8 (g .leaves) ++ (bytes2 (g .dest) ++ (bytes2 0 ++ rest))) (omega arith) (m .bases) (beginOk-bases g ok)) in
       let ls : readFields (getD l 19 0) (drop 24 l) ≡ g .leaves =
-      rw (four-on .3, leaves-on) (readFields-fields 8 63 8 (g .leaves) (bytes2 (g .dest) ++ (bytes2 0 ++ rest)) (omega arith) (m .leaves) (beginOk-leaves g ok)) in
+      rw (four-on .3, leaves-on) (readFields-fields firstLeaf lastLeaf 8 (g .leaves) (bytes2 (g .dest) ++ (bytes2 0 ++ rest)) (omega arith) (m .leaves) (beginOk-leaves g ok)) in
       let d : le2 l 40 ≡ g .dest = sym (le2-drop 40 0 l) ∙ rw dest-on (le2-bytes2 (g .dest) (bytes2 0 ++ rest) (omega arith)) in
       λ i. record { unit = g .unit; type = four-on .0 i; fill = four-on .1 i; bases = bs i; leaves = ls i; dest = d i }
 

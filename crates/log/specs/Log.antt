@@ -10,7 +10,7 @@ use lib.ListN.{length, drop, getD}
 use lib.Dec.{eqb, leb}
 use Rattle.field.specs.Test.{both, all, pick, given, when, bind}
 use Rattle.field.specs.Bytes.{allZero, starts, le2, le4, most4}
-use Rattle.page.specs.Page.{rowsOf, keyOf, ascendRecords}
+use Rattle.page.specs.Page.{rowsOf, keyOf, ascendRecords, firstBase, lastBase, firstLeaf, lastLeaf}
 use Rattle.log.specs.Record.{typeAt, fillAt, baseCountAt, leafCountAt, basesAt, leavesAt, destAt}
 use Rattle.log.specs.Record.{check, lengthOf, Check, Begin, Rec, LB, LO, LI, LM, LE, carried, size, encodeCheck, encode, encodeAll}
 use Rattle.log.specs.Plan.{Step, takeOut, bringIn, point, close, plan}
@@ -97,6 +97,13 @@ unfoldable pub within : (from to : ℕ) → List ℕ → Bool
 within from to [] = true
 within from to (p ∷ ps) = let rest = within from to ps in both (leb from p) (both (leb p to) rest)
 
+-- they are base pages, they are leaf pages
+abbrev pub onBases : List ℕ → Bool
+onBases ps = within firstBase lastBase ps
+
+abbrev pub onLeaves : List ℕ → Bool
+onLeaves ps = within firstLeaf lastLeaf ps
+
 unfoldable pub listed : (p : ℕ) → List ℕ → Bool
 listed p [] = false
 listed p (q ∷ qs) = let rest = listed p qs in pick (eqb p q) true rest
@@ -109,7 +116,7 @@ differ (p ∷ ps) = let rest = differ ps in both (not (listed p ps)) rest
 unfoldable pub compactOk : Begin → Bool
 compactOk g =
     all (eqb (length (g .bases)) 1 ∷ leb 2 (length (g .leaves)) ∷ leb (length (g .leaves)) 8 ∷ leb 1 (g .fill) ∷ leb (g .fill) 15
-    ∷ within 8 63 (g .dest ∷ []) ∷ pick (eqb (g .dest) (getD (g .leaves) 0 0)) true (not (listed (g .dest) (g .leaves))) ∷ [])
+    ∷ onLeaves (g .dest ∷ []) ∷ pick (eqb (g .dest) (getD (g .leaves) 0 0)) true (not (listed (g .dest) (g .leaves))) ∷ [])
 
 -- a swap lists two leaves and one base or two, no fill, destination 0
 unfoldable pub swapOk : Begin → Bool
@@ -118,7 +125,7 @@ swapOk g = all (leb 1 (length (g .bases)) ∷ leb (length (g .bases)) 2 ∷ eqb 
 -- a move lists one leaf and one base, no fill; its destination is another leaf page
 unfoldable pub moveOk : Begin → Bool
 moveOk g =
-    all (eqb (length (g .bases)) 1 ∷ eqb (length (g .leaves)) 1 ∷ eqb (g .fill) 0 ∷ within 8 63 (g .dest ∷ []) ∷ not (listed (g .dest) (g .leaves)) ∷ [])
+    all (eqb (length (g .bases)) 1 ∷ eqb (length (g .leaves)) 1 ∷ eqb (g .fill) 0 ∷ onLeaves (g .dest ∷ []) ∷ not (listed (g .dest) (g .leaves)) ∷ [])
 
 unfoldable pub typeOk : Begin → Bool
 typeOk g = pick (eqb (g .type) 1) (compactOk g) (pick (eqb (g .type) 2) (swapOk g) (both (eqb (g .type) 3) (moveOk g)))
@@ -126,7 +133,7 @@ typeOk g = pick (eqb (g .type) 1) (compactOk g) (pick (eqb (g .type) 2) (swapOk 
 -- listed pages keep to their regions and differ
 unfoldable pub beginOk : Begin → Bool
 beginOk g =
-    all (leb (g .unit) most4 ∷ typeOk g ∷ within 1 7 (g .bases) ∷ differ (g .bases) ∷ within 8 63 (g .leaves) ∷ differ (g .leaves) ∷ [])
+    all (leb (g .unit) most4 ∷ typeOk g ∷ onBases (g .bases) ∷ differ (g .bases) ∷ onLeaves (g .leaves) ∷ differ (g .leaves) ∷ [])
 
 -- ---- a record read: what the bytes l say, and then whether they say just that
 

@@ -5,8 +5,9 @@ ghost use lib.ListN.{length, drop, getD};
 ghost use Rattle.field.specs.Bytes.{part, allZero};
 ghost use Rattle.log.specs.Record.{begin, baseCountAt, leafCountAt};
 ghost use Rattle.log.specs.Stand.{spareZero};
-ghost use Rattle.log.specs.Log.{within, listed, differ, compactOk, swapOk, moveOk, typeOk, beginOk, readFields, readBegin};
+ghost use Rattle.log.specs.Log.{within, onBases, onLeaves, listed, differ, compactOk, swapOk, moveOk, typeOk, beginOk, readFields, readBegin};
 use field::PageNo;
+use page::bounds;
 
 // Where the fields of a begin record stand: type, fill, the two counts, base pages, leaf pages, destination, zero.
 pub const TYPE_AT: usize = 16;
@@ -52,6 +53,34 @@ fn within(m: &[u8], from: PageNo, to: PageNo, start: usize, n: usize) -> bool
         left -= 1;
     }
     true
+}
+
+// Whether n listed pages are base pages.
+fn on_bases(m: &[u8], start: usize, n: usize) -> bool
+    requires { ⌜ start + 2 * n ≤ length (now m) ⌝ }
+    ensures { λ r. ⌜ r ≡ onBases (readFields n (drop start (now (m .entry)))) ⌝ }
+{
+    within(
+        m,
+        PageNo(bounds::FIRST_BASE),
+        PageNo(bounds::LAST_BASE),
+        start,
+        n,
+    )
+}
+
+// Whether n listed pages are leaf pages.
+fn on_leaves(m: &[u8], start: usize, n: usize) -> bool
+    requires { ⌜ start + 2 * n ≤ length (now m) ⌝ }
+    ensures { λ r. ⌜ r ≡ onLeaves (readFields n (drop start (now (m .entry)))) ⌝ }
+{
+    within(
+        m,
+        PageNo(bounds::FIRST_LEAF),
+        PageNo(bounds::LAST_LEAF),
+        start,
+        n,
+    )
 }
 
 // Whether the page p is among n listed pages.
@@ -111,7 +140,7 @@ fn compact_ok(m: &[u8]) -> bool
     if 15 < fill {
         return false;
     }
-    if !within(m, PageNo(8), PageNo(63), DEST_AT, 1) {
+    if !on_leaves(m, DEST_AT, 1) {
         return false;
     }
     let dest = PageNo(field::get2(m, DEST_AT));
@@ -156,7 +185,7 @@ fn move_ok(m: &[u8]) -> bool
     if byte_at(m, FILL_AT) != 0 {
         return false;
     }
-    if !within(m, PageNo(8), PageNo(63), DEST_AT, 1) {
+    if !on_leaves(m, DEST_AT, 1) {
         return false;
     }
     let dest = PageNo(field::get2(m, DEST_AT));
@@ -191,13 +220,13 @@ pub fn begin_ok(m: &[u8]) -> bool
     if !type_ok(m) {
         return false;
     }
-    if !within(m, PageNo(1), PageNo(7), BASES_AT, bases) {
+    if !on_bases(m, BASES_AT, bases) {
         return false;
     }
     if !differ(m, BASES_AT, bases) {
         return false;
     }
-    if !within(m, PageNo(8), PageNo(63), LEAVES_AT, leaves) {
+    if !on_leaves(m, LEAVES_AT, leaves) {
         return false;
     }
     differ(m, LEAVES_AT, leaves)

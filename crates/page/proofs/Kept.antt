@@ -15,7 +15,8 @@ use Rattle.field.proofs.Test.{both-1, both-2, both-intro, all-head, all-tail, p
 use Rattle.field.proofs.Same.{same-eq}
 use Rattle.field.proofs.Zero.{length-zeroes}
 use Rattle.field.proofs.Byte.{bytes-drop, bytes-part, bytes-put, bytes-bytes2}
-use Rattle.page.specs.Page.{Kind, base, leaf, empty, joined, ascend, ascendRecords, pointing, count, number, spare, rows, entries, records, made, shaped, isBase, isLeaf, isEmpty}
+use Rattle.page.specs.Page.{Kind, base, leaf, empty, joined, ascend, ascendRecords, count, number, spare, rows, entries, records, made, shaped}
+use Rattle.page.specs.Page.{firstLeaf, lastLeaf, toLeaves, isBase, isLeaf, isEmpty}
 use Rattle.page.specs.Change.{above, emptied, appended, has, pointTo, without, redirected, removed}
 use Rattle.page.specs.Each.{Each, nil, Long}
 use Rattle.page.proofs.Rows.{each-append, bytes-rowsOf}
@@ -65,7 +66,7 @@ unfolding isLeaf
 changed-leaf n rs pg c = c .form
 
 -- a page of the kind base whose entries point to leaves is a base page
-pub changed-base : (n : ℕ) (es : List (List ℕ)) (pg : List ℕ) → Changed base n es pg → pointing 8 63 es ≡ true → isBase pg ≡ true
+pub changed-base : (n : ℕ) (es : List (List ℕ)) (pg : List ℕ) → Changed base n es pg → toLeaves es ≡ true → isBase pg ≡ true
 unfolding isBase
 changed-base n es pg c t = both-intro _ _ (c .form) (rw (c .holds) t)
 
@@ -167,7 +168,7 @@ length-without key old es t h =
     rw (without-at key old 101 110 0 (f .place) es t (f .inside) (f .keyed) (f .to))
     (simp (length-append, length-take, length-drop) (omega (arith, f .inside)))
 
-pub redirected-kept : (n key old new : ℕ) (pg pg′ : List ℕ) → redirected n key old new pg ≡ some pg′ → n < 4294967296 → 8 ≤ new → new ≤ 63
+pub redirected-kept : (n key old new : ℕ) (pg pg′ : List ℕ) → redirected n key old new pg ≡ some pg′ → n < 4294967296 → firstLeaf ≤ new → new ≤ lastLeaf
     → Changed base n (pointTo key old new (entries pg)) pg′ × (isBase pg′ ≡ true)
 redirected-kept n key old new pg pg′ e small lo hi =
     let w = redirected-facts n key old new pg pg′ e in
@@ -185,7 +186,7 @@ redirected-kept n key old new pg pg′ e small lo hi =
     rw (← (w .2)) (made-changed base n (spare pg) (pointTo key old new (entries pg)) fit-base small (shaped-facts base pg s .gap) f) in (
       c,
       changed-base n (pointTo key old new (entries pg)) pg′ c
-          (pointing-pointTo key old new 8 63 (entries pg) (g .long) lo hi (omega arith) (base-pointing pg (w .0))),
+          (pointing-pointTo key old new firstLeaf lastLeaf (entries pg) (g .long) lo hi (omega arith) (base-pointing pg (w .0))),
     )
 
 pub removed-kept : (n key old : ℕ) (pg pg′ : List ℕ) → removed n key old pg ≡ some pg′ → n < 4294967296
@@ -204,7 +205,7 @@ removed-kept n key old pg pg′ e small =
     } in
     let c : Changed base n (without key old (entries pg)) pg′ =
     rw (← (w .3)) (made-changed base n (spare pg) (without key old (entries pg)) fit-base small (shaped-facts base pg s .gap) f) in
-    (c, changed-base n (without key old (entries pg)) pg′ c (pointing-without key old 8 63 (entries pg) (base-pointing pg (w .0))))
+    (c, changed-base n (without key old (entries pg)) pg′ c (pointing-without key old firstLeaf lastLeaf (entries pg) (base-pointing pg (w .0))))
 
 -- ---- a change of a page of bytes is one
 

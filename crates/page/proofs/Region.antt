@@ -11,7 +11,8 @@ use borrow.Author.Tests.{ne-eqb, le-leb, lt-leb}
 use Rattle.field.specs.Test.{pick}
 use Rattle.field.proofs.Test.{both-1, both-2, pick-or, pick-second}
 use Rattle.field.proofs.Part.{split}
-use Rattle.page.specs.Page.{Kind, root, base, leaf, empty, rowsOf, pointing, count, rows, entries, records, shaped, isRoot, isBase, isLeaf, isEmpty, formed}
+use Rattle.page.specs.Page.{Kind, root, base, leaf, empty, rowsOf, count, rows, entries, records, shaped, isRoot, isBase, isLeaf, isEmpty, formed}
+use Rattle.page.specs.Page.{firstBase, lastBase, firstLeaf, toBases, toLeaves}
 use Rattle.page.proofs.Made.{Shaped, shaped-facts, Fit, fit-root, fit-base, fit-leaf, Fill}
 use Rattle.page.proofs.Rows.{length-rowsOf, long-rowsOf}
 
@@ -21,21 +22,21 @@ pub formed-0 : (pg : List ℕ) → formed 0 pg ≡ isRoot pg
 unfolding formed pick
 formed-0 pg = refl
 
-module _ (p : ℕ) (pg : List ℕ) (low : 1 ≤ p) where
-  pub formed-low : p ≤ 7 → formed p pg ≡ pick (isEmpty pg) true (isBase pg)
+module _ (p : ℕ) (pg : List ℕ) (low : firstBase ≤ p) where
+  pub formed-low : p ≤ lastBase → formed p pg ≡ pick (isEmpty pg) true (isBase pg)
   unfolding formed pick
-  formed-low h = rw (ne-eqb p 0 (λ e. omega arith), le-leb p 7 h)
+  formed-low h = rw (ne-eqb p 0 (λ e. omega arith), le-leb p lastBase h)
 
-  pub formed-high : 8 ≤ p → formed p pg ≡ pick (isEmpty pg) true (isLeaf pg)
+  pub formed-high : firstLeaf ≤ p → formed p pg ≡ pick (isEmpty pg) true (isLeaf pg)
   unfolding formed pick
-  formed-high h = rw (ne-eqb p 0 (λ e. omega arith), lt-leb p 7 h)
+  formed-high h = rw (ne-eqb p 0 (λ e. omega arith), lt-leb p lastBase h)
 
 -- ---- what a page in form is
 
-pub base-place : (p : ℕ) (pg : List ℕ) → 1 ≤ p → p ≤ 7 → formed p pg ≡ true → (isEmpty pg ≡ true) ⊎ (isBase pg ≡ true)
+pub base-place : (p : ℕ) (pg : List ℕ) → firstBase ≤ p → p ≤ lastBase → formed p pg ≡ true → (isEmpty pg ≡ true) ⊎ (isBase pg ≡ true)
 base-place p pg a b e = pick-or (isEmpty pg) (isBase pg) (sym (formed-low p pg a b) ∙ e)
 
-pub leaf-place : (p : ℕ) (pg : List ℕ) → 8 ≤ p → formed p pg ≡ true → (isEmpty pg ≡ true) ⊎ (isLeaf pg ≡ true)
+pub leaf-place : (p : ℕ) (pg : List ℕ) → firstLeaf ≤ p → formed p pg ≡ true → (isEmpty pg ≡ true) ⊎ (isLeaf pg ≡ true)
 leaf-place p pg a e = pick-or (isEmpty pg) (isLeaf pg) (sym (formed-high p pg (omega arith) a) ∙ e)
 
 -- ---- what makes a page in form
@@ -44,10 +45,10 @@ pub empty-formed : (p : ℕ) (pg : List ℕ) → 1 ≤ p → isEmpty pg ≡ true
 unfolding formed pick
 empty-formed p pg a e = rw (ne-eqb p 0 (λ z. omega arith), e)
 
-pub base-formed : (p : ℕ) (pg : List ℕ) → 1 ≤ p → p ≤ 7 → isBase pg ≡ true → formed p pg ≡ true
+pub base-formed : (p : ℕ) (pg : List ℕ) → firstBase ≤ p → p ≤ lastBase → isBase pg ≡ true → formed p pg ≡ true
 base-formed p pg a b e = formed-low p pg a b ∙ pick-second (isEmpty pg) (isBase pg) e
 
-pub leaf-formed : (p : ℕ) (pg : List ℕ) → 8 ≤ p → isLeaf pg ≡ true → formed p pg ≡ true
+pub leaf-formed : (p : ℕ) (pg : List ℕ) → firstLeaf ≤ p → isLeaf pg ≡ true → formed p pg ≡ true
 leaf-formed p pg a e = formed-high p pg (omega arith) a ∙ pick-second (isEmpty pg) (isLeaf pg) e
 
 -- ---- a page of a kind: its shape, its length, its rows
@@ -65,7 +66,7 @@ pub root-shaped : (pg : List ℕ) → isRoot pg ≡ true → shaped root pg ≡ 
 unfolding isRoot
 root-shaped pg e = both-1 _ _ e
 
-pub root-pointing : (pg : List ℕ) → isRoot pg ≡ true → pointing 1 7 (entries pg) ≡ true
+pub root-pointing : (pg : List ℕ) → isRoot pg ≡ true → toBases (entries pg) ≡ true
 unfolding isRoot
 root-pointing pg e = both-2 _ _ e
 
@@ -73,7 +74,7 @@ pub base-shaped : (pg : List ℕ) → isBase pg ≡ true → shaped base pg ≡ 
 unfolding isBase
 base-shaped pg e = both-1 _ _ e
 
-pub base-pointing : (pg : List ℕ) → isBase pg ≡ true → pointing 8 63 (entries pg) ≡ true
+pub base-pointing : (pg : List ℕ) → isBase pg ≡ true → toLeaves (entries pg) ≡ true
 unfolding isBase
 base-pointing pg e = both-2 _ _ e
 
@@ -119,6 +120,6 @@ formed-whole p pg e =
     split p 1
     (λ h. let z : p ≡ 0 = omega arith in
     root-whole pg (sym (formed-0 pg) ∙ (rw z at e)))
-    (λ h. split p 8
+    (λ h. split p firstLeaf
     (λ k. ⊎-elim (λ f. empty-whole pg f) (λ f. base-whole pg f) (base-place p pg h (omega arith) e))
     (λ k. ⊎-elim (λ f. empty-whole pg f) (λ f. leaf-whole pg f) (leaf-place p pg k e)))

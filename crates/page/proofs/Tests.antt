@@ -12,7 +12,7 @@ use borrow.Rule.Slice.PartAt.{part-to-end}
 use Rattle.field.specs.Test.{both, all, pick}
 use Rattle.field.specs.Bytes.{part, allZero}
 use Rattle.field.proofs.Test.{both-end, both-true, both-false, all-head, all-tail, pick-same, pick-second}
-use Rattle.page.specs.Page.{kind, rowsOf, ascend, pointing, letter, count, spare, rows, shaped, isRoot, isBase, isLeaf, isEmpty, formed}
+use Rattle.page.specs.Page.{kind, rowsOf, ascend, pointing, letter, count, spare, rows, shaped, lastBase, isRoot, isBase, isLeaf, isEmpty, formed}
 use Rattle.page.specs.Shape.{headShaped, bodyShaped}
 use Rattle.page.specs.Pages.{page, pages, allFormed}
 use Rattle.page.proofs.Turns.{rows-next}
@@ -150,15 +150,15 @@ module _ (p : ℕ) (l : List ℕ) (z : Bool) where
   unfolding formed pick
   formed-root! h e = e ∙ rw (eq-eqb p 0 h)
 
-  pub place-base! : p ≤ 7 → z ≡ isBase l → z ≡ pick (leb p 7) (isBase l) (isLeaf l)
+  pub place-base! : p ≤ lastBase → z ≡ isBase l → z ≡ pick (leb p lastBase) (isBase l) (isLeaf l)
   unfolding pick
-  place-base! h e = e ∙ rw (le-leb p 7 h)
+  place-base! h e = e ∙ rw (le-leb p lastBase h)
 
-  pub place-leaf! : 7 < p → z ≡ isLeaf l → z ≡ pick (leb p 7) (isBase l) (isLeaf l)
+  pub place-leaf! : lastBase < p → z ≡ isLeaf l → z ≡ pick (leb p lastBase) (isBase l) (isLeaf l)
   unfolding pick
-  place-leaf! h e = e ∙ rw (lt-leb p 7 h)
+  place-leaf! h e = e ∙ rw (lt-leb p lastBase h)
 
-  module _ (e : z ≡ pick (leb p 7) (isBase l) (isLeaf l)) (low : 1 ≤ p) where
+  module _ (e : z ≡ pick (leb p lastBase) (isBase l) (isLeaf l)) (low : 1 ≤ p) where
     below : formed p l ≡ pick (isEmpty l) true z
     unfolding formed
     below = rw (ne-eqb p 0 (λ k. omega arith), ← e) (unfold pick in refl)

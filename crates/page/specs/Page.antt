@@ -116,12 +116,41 @@ shaped k pg =
     all (eqb (length pg) 256 ∷ eqb (getD pg 0 0) 112 ∷ eqb (letter pg) (k .sign) ∷ leb (k .least) (count pg) ∷ leb (count pg) (k .most)
     ∷ allZero (spare pg) ∷ ascend (k .first) (k .second) 0 (rows (k .size) pg) ∷ allZero (drop (16 + k .size * count pg) pg) ∷ [])
 
--- root points to 1..7, base to 8..63
+-- ---- where the kinds stand: page 0 is the root, base pages follow it, then leaf pages; and how many there are of each
+
+abbrev pub firstBase : ℕ
+firstBase = 1
+
+abbrev pub lastBase : ℕ
+lastBase = 7
+
+abbrev pub basePages : ℕ
+basePages = 7
+
+abbrev pub firstLeaf : ℕ
+firstLeaf = 8
+
+abbrev pub lastLeaf : ℕ
+lastLeaf = 63
+
+abbrev pub leafPages : ℕ
+leafPages = 56
+
+-- every entry points to a base page, to a leaf page
+abbrev pub toBases : List (List ℕ) → Bool
+toBases es = pointing firstBase lastBase es
+
+abbrev pub toLeaves : List (List ℕ) → Bool
+toLeaves es = pointing firstLeaf lastLeaf es
+
+-- ---- a page in form
+
+-- the root points to base pages, a base page to leaf pages
 unfoldable pub isRoot : List ℕ → Bool
-isRoot pg = both (shaped root pg) (pointing 1 7 (entries pg))
+isRoot pg = both (shaped root pg) (toBases (entries pg))
 
 unfoldable pub isBase : List ℕ → Bool
-isBase pg = both (shaped base pg) (pointing 8 63 (entries pg))
+isBase pg = both (shaped base pg) (toLeaves (entries pg))
 
 unfoldable pub isLeaf : List ℕ → Bool
 isLeaf pg = shaped leaf pg
@@ -129,6 +158,6 @@ isLeaf pg = shaped leaf pg
 unfoldable pub isEmpty : List ℕ → Bool
 isEmpty pg = shaped empty pg
 
--- page p is in form: page 0 is the root, 1 to 7 are base pages, 8 to 63 leaf pages, and any but the root may be empty
+-- page p is in form: of the kind that belongs there, and any but the root may be empty
 unfoldable pub formed : (p : ℕ) → List ℕ → Bool
-formed p pg = pick (eqb p 0) (isRoot pg) (pick (isEmpty pg) true (pick (leb p 7) (isBase pg) (isLeaf pg)))
+formed p pg = pick (eqb p 0) (isRoot pg) (pick (isEmpty pg) true (pick (leb p lastBase) (isBase pg) (isLeaf pg)))

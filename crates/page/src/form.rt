@@ -4,9 +4,10 @@ ghost use Prim.Native.Nat.{_+_, _*_, _≤_, _<_};
 ghost use lib.ListN.{length, drop};
 ghost use lib.Dec.{leb};
 ghost use Rattle.field.specs.Test.{both, pick};
-ghost use Rattle.page.specs.Page.{rowsOf, count, entries, ascend, pointing, isRoot, isBase, isLeaf, isEmpty, formed};
+ghost use Rattle.page.specs.Page.{rowsOf, count, entries, ascend, pointing, lastBase, isRoot, isBase, isLeaf, isEmpty, formed};
 ghost use Rattle.page.specs.Shape.{headShaped, bodyShaped};
 ghost use Rattle.page.specs.Pages.{pages, allFormed};
+use crate::bounds;
 use crate::view;
 
 // The marks of an entry, `en`, and of a record, `rc`, as numbers of two bytes.
@@ -128,7 +129,7 @@ pub fn is_root(pg: &[u8]) -> bool
     if !head_ok(pg, b'r', 0, 30) {
         return false;
     }
-    entries_ok(pg, 1, 7)
+    entries_ok(pg, bounds::FIRST_BASE as u32, bounds::LAST_BASE as u32)
 }
 
 // Whether a page is a base page.
@@ -138,7 +139,7 @@ pub fn is_base(pg: &[u8]) -> bool
     if !head_ok(pg, b'b', 1, 30) {
         return false;
     }
-    entries_ok(pg, 8, 63)
+    entries_ok(pg, bounds::FIRST_LEAF as u32, bounds::LAST_LEAF as u32)
 }
 
 // Whether a page is a leaf page.
@@ -161,11 +162,11 @@ pub fn is_empty(pg: &[u8]) -> bool
     records_ok(pg)
 }
 
-// Whether a page is of the kind that belongs in place p, which is not the root's: 1 to 7 are base pages, 8 to 63 leaf pages.
+// Whether a page is of the kind that belongs in place p, which is not the root's: a base page or a leaf page.
 fn of_place(p: usize, pg: &[u8]) -> bool
-    ensures { λ r. ⌜ r ≡ pick (leb p 7) (isBase (now (pg .entry))) (isLeaf (now (pg .entry))) ⌝ }
+    ensures { λ r. ⌜ r ≡ pick (leb p lastBase) (isBase (now (pg .entry))) (isLeaf (now (pg .entry))) ⌝ }
 {
-    if p <= 7 {
+    if p <= bounds::LAST_BASE as usize {
         return is_base(pg);
     }
     is_leaf(pg)

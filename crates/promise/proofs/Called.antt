@@ -26,7 +26,7 @@ use Rattle.log.proofs.Sound.{Waits, Awaits, waits-open, sound-atEnd}
 use Rattle.tree.specs.Answer.{Found, missing, found}
 use Rattle.unit.specs.Choice.{orderUnit}
 use Rattle.unit.specs.Next.{targets, apply, targetOf}
-use Rattle.unit.proofs.Pagewise.{apply-none}
+use Rattle.unit.proofs.Pagewise.{apply-stays}
 use Rattle.unit.proofs.Places.{Keeping, one-more, StepKeeps, OpenKeeps, end-keeps}
 use Rattle.store.specs.Calls.{Lent, lent, Left, left, refused, logLength, Went, stopped, formedAt, stepWith, stepped, append, todoOf, begun, beginWith, checkpointed, answered}
 use Rattle.store.specs.Calls as Calls
@@ -119,7 +119,7 @@ nothing-forced = refl
 
 -- an LB changes no page
 pub apply-begin : (n : ℕ) (g : Begin) (w : List ℕ) → apply n (LB g) w ≡ some w
-apply-begin n g w = apply-none n (LB g) w (unfold targets in refl)
+apply-begin n g w = apply-stays n (LB g) w (unfold targets in refl)
 
 module _ (U : UnitLaws store asked) {origin : List ℕ} (d : Lent) (v : Ran origin d) where
   -- between two units the work pages are a well-formed tree in form

@@ -15,6 +15,7 @@ use Rattle.field.specs.Bytes.{Bytes, most4}
 use Rattle.field.proofs.Test.{both-intro, bind-intro, when-true}
 use Rattle.page.specs.Page.{isEmpty}
 use Rattle.page.specs.Pages.{pages}
+use Rattle.page.specs.Places.{place}
 use Rattle.page.proofs.Pages.{formed-pages}
 use Rattle.log.specs.Record.{Check, Begin, Rec, LB, size}
 use Rattle.log.specs.Plan.{Step, close, plan}
@@ -26,7 +27,7 @@ use Rattle.log.proofs.Cut.{good-bare}
 use Rattle.log.proofs.Sound.{Sound, Awaits, sound-atEnd}
 use Rattle.log.proofs.Append.{atEnd-grown}
 use Rattle.tree.specs.Tree.{wellFormed, allRecords, Leaf, leavesOf}
-use Rattle.unit.specs.Choice.{fillOf, larger, compactOf, chooseCompact, compactUnit, place, baseOf, moveOf, swapOf, putInOrder, chooseOrder, orderUnit}
+use Rattle.unit.specs.Choice.{fillOf, larger, compactOf, chooseCompact, compactUnit, baseOf, moveOf, swapOf, putInOrder, chooseOrder, orderUnit}
 use Rattle.unit.specs.Next.{apply, targetOf, pageOf, nextRec, stepSize, room}
 use Rattle.unit.proofs.Places.{end-keeps}
 use Rattle.unit.proofs.Changed.{apply-bytes}

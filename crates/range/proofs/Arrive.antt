@@ -11,7 +11,7 @@ use lib.Seq.{split-at, drop-cons}
 use borrow.Author.Tests.{eqb-true}
 use Rattle.field.specs.Bytes.{Bytes, most4}
 use Rattle.field.proofs.Part.{split}
-use Rattle.page.specs.Page.{keyOf, toPage, count, rows}
+use Rattle.page.specs.Page.{keyOf, toPage, count, rows, lastBase}
 use Rattle.page.specs.Pages.{page, pages}
 use Rattle.page.specs.Each.{Each, nil, cons}
 use Rattle.page.proofs.Rows.{each-append, length-rows}
@@ -116,13 +116,13 @@ module _ (w : List ℕ) (s : Sound w) (bytes : Bytes w) (key o : ℕ) (eo : o �
   spot : Spot 16 w p
   spot = base-spot w s key o eo some b eb i ei p ep
 
-  low : b ≤ 7
+  low : b ≤ lastBase
   low = root-to w s (o - 1) b (omega (arith, top-few w s key o eo)) eb
 
   in-base : i - 1 < count (page b w)
   in-base = omega (arith, base-few w s key o eo some b eb i ei, base-some w s key o eo some b eb i ei)
 
-  high : 7 < p
+  high : lastBase < p
   high = base-to w s b (i - 1) p (over .base) low in-base ep
 
   -- the entries before it, itself, and those behind

@@ -12,7 +12,8 @@ use borrow.Author.Tests.{eq-eqb, ne-eqb}
 use Rattle.field.specs.Test.{pick}
 use Rattle.field.proofs.Test.{all-head, pick-true, pick-false}
 use Rattle.field.proofs.Part.{split}
-use Rattle.page.specs.Page.{toPage, rows, isEmpty}
+use Rattle.page.specs.Page.{toPage, rows, firstBase, lastBase, firstLeaf, lastLeaf, leafPages, isEmpty}
+use Rattle.page.specs.Places.{Leafy}
 use Rattle.page.specs.Pages.{page, pages}
 use Rattle.page.specs.Each.{Each, nil, cons}
 use Rattle.page.proofs.Rows.{each-append, length-rows}
@@ -66,11 +67,11 @@ sum-one x p (suc n) h k =
 
 -- ---- entries that point into leaf pages are as many as these are pointed to
 
-sum-pointers : (es : List (List ℕ)) → Each (λ e. (8 ≤ toPage e) × (toPage e ≤ 63)) es → length es ≡ sumFrom (λ p. pointers p es) 8 56
+sum-pointers : (es : List (List ℕ)) → Each (λ e. Leafy (toPage e)) es → length es ≡ sumFrom (λ p. pointers p es) firstLeaf leafPages
 unfolding pointers
-sum-pointers [] nil = sym (sum-none 8 56)
+sum-pointers [] nil = sym (sum-none firstLeaf leafPages)
 sum-pointers (e ∷ es) (cons h p) =
-    omega (arith, sum-add (λ q. pick (eqb (toPage e) q) 1 0) (λ q. pointers q es) 8 56, sum-one (toPage e) 8 56 (h .0) (omega (arith, h .1)), sum-pointers es p)
+    omega (arith, sum-add (λ q. pick (eqb (toPage e) q) 1 0) (λ q. pointers q es) firstLeaf leafPages, sum-one (toPage e) firstLeaf leafPages (h .0) (omega (arith, h .1)), sum-pointers es p)
 
 pick-small : (b : Bool) → pick b 0 1 ≤ 1
 unfolding pick
@@ -84,31 +85,31 @@ module _ (w : List ℕ) (s : Sound w) where
   abbrev tops : List (List ℕ)
   tops = rows 8 (page 0 w)
 
-  level-points : (es : List (List ℕ)) → Each (Above w) es → Each (λ e. toPage e ≤ 7) es → Each (λ e. (8 ≤ toPage e) × (toPage e ≤ 63)) (below 8 (pages w) es)
+  level-points : (es : List (List ℕ)) → Each (Above w) es → Each (λ e. toPage e ≤ lastBase) es → Each (λ e. Leafy (toPage e)) (below 8 (pages w) es)
   unfolding below under
   level-points [] nil nil = nil
   level-points (e ∷ es) (cons o p) (cons k q) =
       let b : ℕ = toPage e in
       let to = base-points b (page b w) (formed-page b w (s .form .forms) (o .base .inside)) (o .base .past) k in
-      rw (getD-pages b w (o .base .inside)) (each-append (each-of (rows 8 (page b w)) (λ i h. pointing-at 8 63 i (rows 8 (page b w)) to h)) (level-points es p q))
+      rw (getD-pages b w (o .base .inside)) (each-append (each-of (rows 8 (page b w)) (λ i h. pointing-at firstLeaf lastLeaf i (rows 8 (page b w)) to h)) (level-points es p q))
 
   sound-once : pointedOnce (rows 8 (page 0 w) ++ below 8 (pages w) (rows 8 (page 0 w))) 1 (drop 1 (pages w)) ≡ true
   unfolding wellFormed baseEntries
   sound-once = rw (root-entries w) at (all-head _ _ (s .well))
 
-  leaves-few : length (below 8 (pages w) (rows 8 (page 0 w))) ≤ 56
+  leaves-few : length (below 8 (pages w) (rows 8 (page 0 w))) ≤ leafPages
   leaves-few =
       let level : List (List ℕ) = below 8 (pages w) tops in
-      let low : Each (λ e. toPage e ≤ 7) tops =
-      each-of tops (λ i h. pointing-at 1 7 i tops (root-points (page 0 w) (formed-page 0 w (s .form .forms) (omega arith))) h .1) in
-      let n : length level ≡ sumFrom (λ p. pointers p level) 8 56 = sum-pointers level (level-points tops (sound-over w s) low) in
+      let low : Each (λ e. toPage e ≤ lastBase) tops =
+      each-of tops (λ i h. pointing-at firstBase lastBase i tops (root-points (page 0 w) (formed-page 0 w (s .form .forms) (omega arith))) h .1) in
+      let n : length level ≡ sumFrom (λ p. pointers p level) firstLeaf leafPages = sum-pointers level (level-points tops (sound-over w s) low) in
       let ld : length (drop 1 (pages w)) ≡ 63 = length-drop 1 (pages w) ∙ rw (length-pages w) in
-      let few : (q : ℕ) → 8 ≤ q → q < 8 + 56 → pointers q level ≤ 1 =
+      let few : (q : ℕ) → firstLeaf ≤ q → q < firstLeaf + leafPages → pointers q level ≤ 1 =
       λ q a b. let i : ℕ = q - 1 in
       let e : 1 + i ≡ q = omega arith in
       let o : pointers (1 + i) (tops ++ level) ≤ 1 = at-most-once (tops ++ level) 1 i (drop 1 (pages w)) sound-once (omega arith) in
       rw (← e) (omega (arith, pointers-append (1 + i) tops level)) in
-      omega (arith, sum-few (λ p. pointers p level) 8 56 few)
+      omega (arith, sum-few (λ p. pointers p level) firstLeaf leafPages few)
 
   records-few : (es : List (List ℕ)) → Each (Below 16 w) es → length (below 16 (pages w) es) ≤ 15 * length es
   unfolding below under

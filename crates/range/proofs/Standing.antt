@@ -8,7 +8,7 @@ use mathlib.Core.List.{List, [], _∷_, _++_}
 use lib.ListN.{length, drop, getD, drop-of-length-le}
 use Rattle.field.proofs.Test.{both-1}
 use Rattle.field.proofs.Part.{split}
-use Rattle.page.specs.Page.{root, base, leaf, keyOf, valueOf, count, rows, isRoot, isBase, isLeaf, formed}
+use Rattle.page.specs.Page.{root, base, leaf, keyOf, valueOf, count, rows, firstBase, lastBase, firstLeaf, lastLeaf, isRoot, isBase, isLeaf, formed}
 use Rattle.page.specs.Pages.{page}
 use Rattle.page.proofs.Rows.{length-rows, getD-rows}
 use Rattle.page.proofs.Order.{pointing-at}
@@ -36,7 +36,7 @@ module _ (w : List ℕ) (s : Sound w) where
     | as-leaf k t ↦ absurd (let x : ⊥ = omega arith in x)
   ]
 
-  pub base-kind : (b : ℕ) → Spot 8 w b → b ≤ 7 → Shaped base (page b w)
+  pub base-kind : (b : ℕ) → Spot 8 w b → b ≤ lastBase → Shaped base (page b w)
   base-kind b o h = elim (formed-kind b (page b w) (form b (o .inside))) [
     | as-root z t ↦ absurd (let x : ⊥ = omega (arith, o .past) in x)
     | as-empty z t ↦ absurd (let x : ⊥ = omega (arith, o .full, empty-none (page b w) t) in x)
@@ -44,7 +44,7 @@ module _ (w : List ℕ) (s : Sound w) where
     | as-leaf k t ↦ absurd (let x : ⊥ = omega arith in x)
   ]
 
-  pub leaf-kind : (p : ℕ) → Spot 16 w p → 7 < p → Shaped leaf (page p w)
+  pub leaf-kind : (p : ℕ) → Spot 16 w p → lastBase < p → Shaped leaf (page p w)
   leaf-kind p o h = elim (formed-kind p (page p w) (form p (o .inside))) [
     | as-root z t ↦ absurd (let x : ⊥ = omega arith in x)
     | as-empty z t ↦ absurd (let x : ⊥ = omega (arith, o .full, empty-none (page p w) t) in x)
@@ -57,30 +57,30 @@ module _ (w : List ℕ) (s : Sound w) where
   pub top-there : (i : ℕ) → i < count (page 0 w) → hasTop i w ≡ true
   top-there i h = row-true _ _ 0 i w (record { inside = omega arith; lettered = root-kind .lettered; few = root-kind .room; here = h })
 
-  pub entry-there : (b i : ℕ) → Spot 8 w b → b ≤ 7 → i < count (page b w) → hasEntry b i w ≡ true
+  pub entry-there : (b i : ℕ) → Spot 8 w b → b ≤ lastBase → i < count (page b w) → hasEntry b i w ≡ true
   entry-there b i o k h = row-true _ _ b i w (record { inside = o .inside; lettered = base-kind b o k .lettered; few = base-kind b o k .room; here = h })
 
-  pub record-there : (p i : ℕ) → Spot 16 w p → 7 < p → i < count (page p w) → hasRecord p i w ≡ true
+  pub record-there : (p i : ℕ) → Spot 16 w p → lastBase < p → i < count (page p w) → hasRecord p i w ≡ true
   record-there p i o k h = row-true _ _ p i w (record { inside = o .inside; lettered = leaf-kind p o k .lettered; few = leaf-kind p o k .room; here = h })
 
   -- ---- where entries point
 
-  pub root-to : (i b : ℕ) → i < count (page 0 w) → b ≡ entryTo 0 i w → b ≤ 7
+  pub root-to : (i b : ℕ) → i < count (page 0 w) → b ≡ entryTo 0 i w → b ≤ lastBase
   unfolding entryTo
-  root-to i b h e = rw e (pointing-at 1 7 i (rows 8 (page 0 w)) (root-points (page 0 w) (form 0 (omega arith))) (rw (length-rows 8 (page 0 w)) h) .1)
+  root-to i b h e = rw e (pointing-at firstBase lastBase i (rows 8 (page 0 w)) (root-points (page 0 w) (form 0 (omega arith))) (rw (length-rows 8 (page 0 w)) h) .1)
 
-  pub base-to : (b i p : ℕ) → Spot 8 w b → b ≤ 7 → i < count (page b w) → p ≡ entryTo b i w → 7 < p
+  pub base-to : (b i p : ℕ) → Spot 8 w b → b ≤ lastBase → i < count (page b w) → p ≡ entryTo b i w → lastBase < p
   unfolding entryTo
-  base-to b i p o k h e = rw e (pointing-at 8 63 i (rows 8 (page b w)) (base-points b (page b w) (form b (o .inside)) (o .past) k) (rw (length-rows 8 (page b w)) h) .0)
+  base-to b i p o k h e = rw e (pointing-at firstLeaf lastLeaf i (rows 8 (page b w)) (base-points b (page b w) (form b (o .inside)) (o .past) k) (rw (length-rows 8 (page b w)) h) .0)
 
 -- ---- positions
 
 -- the position is below a base page and on a leaf page, each in its region
 pub record Seat (w : List ℕ) (at : Place) : Type 0 where
   pub over : Over w (at .base)
-  pub low : at .base ≤ 7
+  pub low : at .base ≤ lastBase
   pub spot : Spot 16 w (at .leaf)
-  pub high : 7 < at .leaf
+  pub high : lastBase < at .leaf
 
 -- where a record is left, the position stands on one
 pub record Standing (w : List ℕ) (at : Place) : Type 0 where
@@ -97,7 +97,7 @@ pub record Comes (w : List ℕ) (at : Place) (rs : List (List ℕ)) : Type 0 whe
 
 module _ (w : List ℕ) (s : Sound w) where
   -- the first record below an entry of a base page
-  below-stands : (o b i : ℕ) → Over w b → b ≤ 7 → i < count (page b w) → Standing w (firstBelow o b i w)
+  below-stands : (o b i : ℕ) → Over w b → b ≤ lastBase → i < count (page b w) → Standing w (firstBelow o b i w)
   unfolding firstBelow
   below-stands o b i over low h =
       let p : ℕ = entryTo b i w in
@@ -124,7 +124,7 @@ module _ (w : List ℕ) (s : Sound w) where
         split (at .root) (count (page 0 w))
         (λ k. let b : ℕ = entryTo 0 (at .root) w in
         let over : Over w b = unfold entryTo in root-over w s (at .root) b k refl in
-        let low : b ≤ 7 = root-to w s (at .root) b k refl in
+        let low : b ≤ lastBase = root-to w s (at .root) b k refl in
         let e : leafAfter at w ≡ firstBelow (at .root + 1) b 0 w = after-top w at none (top-there w s (at .root) k) b refl
         (entry-there w s b 0 (over .base) low (over .base .full)) in
         rw e (record { stands = below-stands (at .root + 1) b 0 over low (over .base .full); left = top-left (at .root) b k refl ∙ sym (behind-base w at h) }))

@@ -8,7 +8,7 @@ use lib.ListN.{length}
 use lib.Dec.{eqb, leb, ltb}
 use Rattle.field.specs.Test.{both, all, pick, need, given, when, bind, there}
 use Rattle.field.specs.Bytes.{put, zeroes, same, most4}
-use Rattle.page.specs.Page.{rowsOf, ascendRecords, number, formed}
+use Rattle.page.specs.Page.{rowsOf, ascendRecords, number, basePages, leafPages, formed}
 use Rattle.page.specs.Pages.{page, putPage, pages, allFormed}
 use Rattle.log.specs.Record.{Check, Begin, Rec, LB, size, encodeCheck, encode}
 use Rattle.log.specs.Plan.{Step, plan}
@@ -88,7 +88,7 @@ build f g d =
     need (threeSized d) (refused 0 1 d)
     (need (all (leb 1 f ∷ leb f 15 ∷ leb 1 g ∷ leb g 30 ∷ eqb (length (d .bytes) % 16) 0 ∷ [])) (refused 0 12 d)
     (need (ascendRecords 0 rs) (refused 0 16 d)
-    (need (both (leb (length (leafGroups f rs)) 56) (leb (length (baseGroups f g rs)) 7)) (refused 0 17 d)
+    (need (both (leb (length (leafGroups f rs)) leafPages) (leb (length (baseGroups f g rs)) basePages)) (refused 0 17 d)
     (left 0 [] (lent 24 24 w w (newLog (record { number = 1; unit = 0; lk = none })) (d .bytes))))))
 
 -- ---- a step, and recovery's finishing

@@ -11,11 +11,12 @@ use lib.ListN.{length, getD, length-map}
 use Rattle.field.specs.Test.{both, pick}
 use Rattle.field.specs.Bytes.{most4}
 use Rattle.field.proofs.Test.{both-intro, all-intro, all-nil, pick-true, pick-false, pick-second}
+use Rattle.page.specs.Page.{firstBase, lastBase, firstLeaf, lastLeaf}
+use Rattle.page.specs.Places.{Basic, Leafy}
 use Rattle.log.specs.Record.{Begin}
 use Rattle.log.specs.Plan.{Step, takeOut, bringIn, point, close, gather, removals, compactPlan, movePlan, swapPlan}
-use Rattle.log.specs.Log.{within, listed, differ, compactOk, swapOk, moveOk, typeOk, beginOk}
+use Rattle.log.specs.Log.{within, onBases, onLeaves, listed, differ, compactOk, swapOk, moveOk, typeOk, beginOk}
 use Rattle.unit.specs.Choice.{oneOrTwo}
-use Rattle.unit.proofs.Places.{Leafy, Basic}
 use Rattle.tidy.proofs.Model.{Entry, pointers, All}
 use Rattle.tidy.proofs.Trail.{hit, miss}
 use Rattle.tidy.proofs.Gather.{pagesOf}
@@ -35,10 +36,18 @@ within-nil : (from to : ℕ) → within from to [] ≡ true
 unfolding within
 within-nil from to = refl
 
+-- one base page
+base-alone : (p : ℕ) → Basic p → onBases (p ∷ []) ≡ true
+base-alone p h = within-cons firstBase lastBase p [] (h .0) (h .1) (within-nil firstBase lastBase)
+
+-- one leaf page
+leaf-alone : (p : ℕ) → Leafy p → onLeaves (p ∷ []) ≡ true
+leaf-alone p h = within-cons firstLeaf lastLeaf p [] (h .0) (h .1) (within-nil firstLeaf lastLeaf)
+
 -- the pages of entries that point to leaf pages
-within-pages : (es : List Entry) → All (λ e. Leafy (e .page)) es → within 8 63 (pagesOf es) ≡ true
-within-pages [] h = within-nil 8 63
-within-pages (e ∷ es) h = within-cons 8 63 (e .page) (pagesOf es) (h .0 .0) (h .0 .1) (within-pages es (h .1))
+within-pages : (es : List Entry) → All (λ e. Leafy (e .page)) es → onLeaves (pagesOf es) ≡ true
+within-pages [] h = within-nil firstLeaf lastLeaf
+within-pages (e ∷ es) h = within-cons firstLeaf lastLeaf (e .page) (pagesOf es) (h .0 .0) (h .0 .1) (within-pages es (h .1))
 
 -- a page that no entry points to is not listed
 pub listed-none : (p : ℕ) (es : List Entry) → pointers p es ≡ 0 → listed p (pagesOf es) ≡ false
@@ -81,7 +90,7 @@ abbrev pub swapBegin : (u p q a b : ℕ) → Begin
 swapBegin u p q a b = record { unit = u; type = 2; fill = 0; bases = oneOrTwo p q; leaves = a ∷ b ∷ []; dest = 0 }
 
 -- by type
-ok-of : (g : Begin) → g .unit ≤ most4 → typeOk g ≡ true → within 1 7 (g .bases) ≡ true → differ (g .bases) ≡ true → within 8 63 (g .leaves) ≡ true
+ok-of : (g : Begin) → g .unit ≤ most4 → typeOk g ≡ true → onBases (g .bases) ≡ true → differ (g .bases) ≡ true → onLeaves (g .leaves) ≡ true
     → differ (g .leaves) ≡ true → beginOk g ≡ true
 unfolding beginOk
 ok-of g u t b c l d =
@@ -105,8 +114,8 @@ compact-ok u fill b x ds d hu f1 f15 hb hl once l1 l7 hd side =
     (all-intro _ _ (le-leb (suc (length (pagesOf ds))) 8 (omega arith))
     (all-intro _ _ (le-leb 1 fill f1)
     (all-intro _ _ (le-leb fill 15 f15)
-    (all-intro _ _ (within-cons 8 63 d [] (hd .0) (hd .1) (within-nil 8 63)) (all-intro _ _ t all-nil)))))))
-    (within-cons 1 7 b [] (hb .0) (hb .1) (within-nil 1 7)) (differ-one b) (within-pages (x ∷ ds) hl) (differ-pages (x ∷ ds) once)
+    (all-intro _ _ (leaf-alone d hd) (all-intro _ _ t all-nil)))))))
+    (base-alone b hb) (differ-one b) (within-pages (x ∷ ds) hl) (differ-pages (x ∷ ds) once)
 
 -- a move's
 pub move-ok : (u b a d : ℕ) → u ≤ most4 → Basic b → Leafy a → Leafy d → d ≢ a → beginOk (moveBegin u b a d) ≡ true
@@ -119,22 +128,22 @@ move-ok u b a d hu hb ha hd n =
     (all-intro _ _ (eq-eqb 1 1 refl)
     (all-intro _ _ (eq-eqb 1 1 refl)
     (all-intro _ _ (eq-eqb 0 0 refl)
-    (all-intro _ _ (within-cons 8 63 d [] (hd .0) (hd .1) (within-nil 8 63))
+    (all-intro _ _ (leaf-alone d hd)
     (all-intro _ _ (ap not (pick-false (eqb d a) true false (ne-eqb d a n))) all-nil))))))
-    (within-cons 1 7 b [] (hb .0) (hb .1) (within-nil 1 7)) (differ-one b) (within-cons 8 63 a [] (ha .0) (ha .1) (within-nil 8 63)) (differ-one a)
+    (base-alone b hb) (differ-one b) (leaf-alone a ha) (differ-one a)
 
 -- one base page or two
 two-bases : (p q : ℕ) → Basic p → Basic q
-    → (within 1 7 (oneOrTwo p q) ≡ true) × (differ (oneOrTwo p q) ≡ true) × (1 ≤ length (oneOrTwo p q)) × (length (oneOrTwo p q) ≤ 2)
+    → (onBases (oneOrTwo p q) ≡ true) × (differ (oneOrTwo p q) ≡ true) × (1 ≤ length (oneOrTwo p q)) × (length (oneOrTwo p q) ≤ 2)
 unfolding oneOrTwo pick
 two-bases p q hp hq = go (eqb p q) refl
   where
-    go : (t : Bool) → eqb p q ≡ t → (within 1 7 (pick t (p ∷ []) (p ∷ q ∷ [])) ≡ true) × (differ (pick t (p ∷ []) (p ∷ q ∷ [])) ≡ true)
+    go : (t : Bool) → eqb p q ≡ t → (onBases (pick t (p ∷ []) (p ∷ q ∷ [])) ≡ true) × (differ (pick t (p ∷ []) (p ∷ q ∷ [])) ≡ true)
         × (1 ≤ length (pick t (p ∷ []) (p ∷ q ∷ []))) × (length (pick t (p ∷ []) (p ∷ q ∷ [])) ≤ 2)
     go true e =
-        (within-cons 1 7 p [] (hp .0) (hp .1) (within-nil 1 7), differ-one p, omega arith, omega arith)
+        (base-alone p hp, differ-one p, omega arith, omega arith)
     go false e = (
-      within-cons 1 7 p (q ∷ []) (hp .0) (hp .1) (within-cons 1 7 q [] (hq .0) (hq .1) (within-nil 1 7)),
+      within-cons firstBase lastBase p (q ∷ []) (hp .0) (hp .1) (base-alone q hq),
       differ-two p q (eqb-false p q e),
       omega arith,
       omega arith,
@@ -152,7 +161,7 @@ swap-ok u p q a b hu hp hq ha hb n =
     (all-intro _ _ (le-leb (length (oneOrTwo p q)) 2 (t .3))
     (all-intro _ _ (eq-eqb 2 2 refl) (all-intro _ _ (eq-eqb 0 0 refl) (all-intro _ _ (eq-eqb 0 0 refl) all-nil)))))
     (t .0) (t .1)
-    (within-cons 8 63 a (b ∷ []) (ha .0) (ha .1) (within-cons 8 63 b [] (hb .0) (hb .1) (within-nil 8 63))) (differ-two a b n)
+    (within-cons firstLeaf lastLeaf a (b ∷ []) (ha .0) (ha .1) (leaf-alone b hb)) (differ-two a b n)
 
 -- the base pages that the plan of a swap reads off
 pub bases-read : (p q : ℕ) → (getD (oneOrTwo p q) 0 0 ≡ p) × (getD (oneOrTwo p q) 1 p ≡ q)

@@ -13,10 +13,10 @@ use lib.Dec.{eqb, leb, ltb}
 use lib.ListN.{length, getD}
 use Rattle.field.specs.Test.{both, all, pick}
 use Rattle.field.proofs.Test.{both-2, both-false, all-head, all-tail, pick-false}
-use Rattle.page.specs.Page.{isEmpty}
+use Rattle.page.specs.Places.{emptyLeaf, place}
 use Rattle.log.specs.Record.{Begin}
 use Rattle.tree.specs.Tree.{Leaf}
-use Rattle.unit.specs.Choice.{exceeds, joining, group, lowestEmpty, compactOf, larger, chooseCompact, place, putInOrder, chooseOrder}
+use Rattle.unit.specs.Choice.{exceeds, joining, group, lowestEmpty, compactOf, larger, chooseCompact, putInOrder, chooseOrder}
 use Rattle.tidy.proofs.Model.{Entry, pointers, weight, State}
 use Rattle.tidy.proofs.Trail.{miss}
 use Rattle.tidy.proofs.Gather.{pagesOf}
@@ -35,27 +35,17 @@ pub record Compacted (u fill : ℕ) (ps : List (List ℕ)) (ls : List Leaf) (g :
   pub next : List Leaf
   pub all-leaves : ls ≡ before ++ first ∷ next
   pub low : ℕ
-  pub low-enough : 7 ≤ low
   pub two : 2 ≤ length (group fill first next)
   pub is : g ≡ compactOf u fill first (group fill first next) (lowestEmpty low (first .at) 0 ps)
 
--- the larger of two is no lower than the first
-larger-low : (a b : ℕ) → 7 ≤ a → 7 ≤ larger a b
-unfolding larger
-larger-low a b h = go (leb a b) refl
-  where
-    go : (t : Bool) → leb a b ≡ t → 7 ≤ pick t b a
-    go true e = unfold pick in (omega (arith, leb-true a b e))
-    go false e = unfold pick in h
-
 -- what begin compact chooses is such a C
-pub compacted : (u fill low : ℕ) (lk : Option ℕ) (ps : List (List ℕ)) (ls : List Leaf) (g : Begin) → 7 ≤ low
+pub compacted : (u fill low : ℕ) (lk : Option ℕ) (ps : List (List ℕ)) (ls : List Leaf) (g : Begin)
     → chooseCompact u fill low lk ps ls ≡ some g → Compacted u fill ps ls g
 unfolding chooseCompact pick
-compacted u fill low lk ps [] g h e = absurd (none-some e)
-compacted u fill low lk ps (c ∷ next) g h e =
+compacted u fill low lk ps [] g e = absurd (none-some e)
+compacted u fill low lk ps (c ∷ next) g e =
     go (both (exceeds (c .first) lk) (leb 2 (length (group fill c next)))) refl e
-    (compacted u fill (larger low (c .at)) lk ps next g (larger-low low (c .at) h))
+    (compacted u fill (larger low (c .at)) lk ps next g)
   where
     go : (t : Bool) → both (exceeds (c .first) lk) (leb 2 (length (group fill c next))) ≡ t
         → pick t (some (compactOf u fill c (group fill c next) (lowestEmpty low (c .at) 0 ps))) (chooseCompact u fill (larger low (c .at)) lk ps next) ≡ some g
@@ -67,7 +57,6 @@ compacted u fill low lk ps (c ∷ next) g h e =
           next = next;
           all-leaves = refl;
           low = low;
-          low-enough = h;
           two = leb-true 2 (length (group fill c next)) (both-2 _ _ q);
           is = sym (Option·some-injective _ _ f);
         }
@@ -79,32 +68,30 @@ compacted u fill low lk ps (c ∷ next) g h e =
           next = r .next;
           all-leaves = ap (λ (x : List Leaf). c ∷ x) (r .all-leaves);
           low = r .low;
-          low-enough = r .low-enough;
           two = r .two;
           is = r .is;
         }
 
--- the destination: C's own page, or a page between L and C that is empty
+-- the destination: C's own page, or an empty leaf page below it
 pub lowest-empty : (low c p : ℕ) (pgs : List (List ℕ)) → (lowestEmpty low c p pgs ≡ c)
-    ⊎ ((i : ℕ) × (i < length pgs) × (lowestEmpty low c p pgs ≡ p + i) × (low < p + i) × (p + i < c) × (isEmpty (getD pgs i []) ≡ true))
+    ⊎ ((i : ℕ) × (i < length pgs) × (lowestEmpty low c p pgs ≡ p + i) × (p + i < c) × (emptyLeaf (p + i) (getD pgs i []) ≡ true))
 unfolding lowestEmpty pick
 lowest-empty low c p [] = inl refl
-lowest-empty low c p (pg ∷ pgs) = go (all (ltb low p ∷ ltb p c ∷ isEmpty pg ∷ [])) refl (lowest-empty low c (p + 1) pgs)
+lowest-empty low c p (pg ∷ pgs) = go (all (ltb low p ∷ ltb p c ∷ emptyLeaf p pg ∷ [])) refl (lowest-empty low c (p + 1) pgs)
   where
-    go : (t : Bool) → all (ltb low p ∷ ltb p c ∷ isEmpty pg ∷ []) ≡ t
+    go : (t : Bool) → all (ltb low p ∷ ltb p c ∷ emptyLeaf p pg ∷ []) ≡ t
         → (lowestEmpty low c (p + 1) pgs ≡ c)
-        ⊎ ((i : ℕ) × (i < length pgs) × (lowestEmpty low c (p + 1) pgs ≡ p + 1 + i) × (low < p + 1 + i) × (p + 1 + i < c) × (isEmpty (getD pgs i []) ≡ true))
+        ⊎ ((i : ℕ) × (i < length pgs) × (lowestEmpty low c (p + 1) pgs ≡ p + 1 + i) × (p + 1 + i < c) × (emptyLeaf (p + 1 + i) (getD pgs i []) ≡ true))
         → (pick t p (lowestEmpty low c (p + 1) pgs) ≡ c)
-        ⊎ ((i : ℕ) × (i < suc (length pgs)) × (pick t p (lowestEmpty low c (p + 1) pgs) ≡ p + i) × (low < p + i) × (p + i < c) × (isEmpty (getD (pg ∷ pgs) i []) ≡ true))
+        ⊎ ((i : ℕ) × (i < suc (length pgs)) × (pick t p (lowestEmpty low c (p + 1) pgs) ≡ p + i) × (p + i < c) × (emptyLeaf (p + i) (getD (pg ∷ pgs) i []) ≡ true))
     go true q r =
         let q1 = all-tail _ _ q in
         inr (
           0,
           omega arith,
           sym (add-zero p),
-          omega (arith, ltb-true low p (all-head _ _ q)),
           omega (arith, ltb-true p c (all-head _ _ q1)),
-          all-head _ _ (all-tail _ _ q1),
+          rw (add-zero p) (all-head _ _ (all-tail _ _ q1)),
         )
     go false q (inl e) = inl e
     go false q (inr r) =
@@ -114,8 +101,7 @@ lowest-empty low c p (pg ∷ pgs) = go (all (ltb low p ∷ ltb p c ∷ isEmpty p
           omega (arith, r .1),
           r .2 ∙ n,
           omega (arith, r .3),
-          omega (arith, r .4),
-          r .5,
+          rw n at (r .4),
         )
 
 -- ---- the group

@@ -12,7 +12,7 @@ use Rattle.field.specs.Test.{all, pick}
 use Rattle.field.specs.Bytes.{le2}
 use Rattle.field.proofs.Test.{all-head, all-tail, all-intro, all-nil}
 use Rattle.field.proofs.Part.{split}
-use Rattle.page.specs.Page.{keyOf, count, rows, rowsOf, records, isEmpty}
+use Rattle.page.specs.Page.{keyOf, count, rows, rowsOf, records, firstBase, lastBase, firstLeaf, lastLeaf, isEmpty}
 use Rattle.page.specs.Pages.{page, pages}
 use Rattle.page.proofs.Pages.{length-pages, getD-pages}
 use Rattle.tree.specs.Tree.{below, allRecords, pointedOnce, startsAtZero, headed, keysKept, wellFormed}
@@ -92,23 +92,23 @@ module _ (w : List ℕ) (sound : Sound w) where
   upper-pointed : ((p : ℕ) → 1 ≤ p → p < 64 → Counted p) → (p : ℕ) → pointers p (ents top) ≡ full (baseOf w p)
   upper-pointed f p =
       split p 1
-      (λ h. outside 1 7 p top (root-into w sound) (inl h) ∙ sym (ap full (base-not w p (inl (omega arith)))))
-      (λ h. split p 8
-      (λ k. let z = outside 8 63 p lev (leaves-into w sound) (inl k) in
+      (λ h. outside firstBase lastBase p top (root-into w sound) (inl h) ∙ sym (ap full (base-not w p (inl (omega arith)))))
+      (λ h. split p firstLeaf
+      (λ k. let z = outside firstLeaf lastLeaf p lev (leaves-into w sound) (inl k) in
       let c = f p h (omega arith) in
       omega (arith, full-base w sound p h (omega arith)))
-      (λ k. outside 1 7 p top (root-into w sound) (inr k) ∙ sym (ap full (base-not w p (inr k)))))
+      (λ k. outside firstBase lastBase p top (root-into w sound) (inr k) ∙ sym (ap full (base-not w p (inr k)))))
 
   -- so are leaf pages
   lower-pointed : ((p : ℕ) → 1 ≤ p → p < 64 → Counted p) → (p : ℕ) → pointers p (ents lev) ≡ full (leafOf w p)
   lower-pointed f p =
-      split p 8
-      (λ h. outside 8 63 p lev (leaves-into w sound) (inl h) ∙ sym (ap full (leaf-not w p h)))
+      split p firstLeaf
+      (λ h. outside firstLeaf lastLeaf p lev (leaves-into w sound) (inl h) ∙ sym (ap full (leaf-not w p h)))
       (λ h. split p 64
-      (λ k. let z = outside 1 7 p top (root-into w sound) (inr h) in
+      (λ k. let z = outside firstBase lastBase p top (root-into w sound) (inr h) in
       let c = f p (omega arith) k in
       omega (arith, full-leaf w sound p h (omega arith)))
-      (λ k. outside 8 63 p lev (leaves-into w sound) (inr k) ∙ sym (ap full (leaf-past p k))))
+      (λ k. outside firstLeaf lastLeaf p lev (leaves-into w sound) (inr k) ∙ sym (ap full (leaf-past p k))))
 
   -- all entries of base pages, and all records
   level-of : ents lev ≡ level (rootOf w) (stateOf w)
@@ -153,10 +153,10 @@ module _ (w : List ℕ) (sound : Sound w) where
       let up : Ascends 0 (rowTrail 8 ps top) = rw (trail-base w sound top (root-into w sound)) at (t .upper .ascends) in
       let down : Ascends 0 (rowTrail 16 ps lev) = rw (trail-leaf w sound lev (leaves-into w sound)) at (low .ascends) in
       let f : (p : ℕ) → 1 ≤ p → p < 64 → Counted p =
-      λ p h k. split p 8
-      (λ s. let z = outside 8 63 p lev (leaves-into w sound) (inl s) in
+      λ p h k. split p firstLeaf
+      (λ s. let z = outside firstLeaf lastLeaf p lev (leaves-into w sound) (inl s) in
       omega (arith, t .upper .pointed p, full-base w sound p h (omega arith)))
-      (λ s. let z = outside 1 7 p top (root-into w sound) (inr s) in
+      (λ s. let z = outside firstBase lastBase p top (root-into w sound) (inr s) in
       omega (arith, low .pointed p, full-leaf w sound p s (omega arith))) in
       tests
       ∙ all-intro _ _ (counted-of f)

@@ -10,6 +10,7 @@ use borrow.Author.Tests.{eq-eqb, ne-eqb}
 use lib.Dec.{eqb}
 use lib.ListN.{length, length-map}
 use Rattle.field.proofs.Test.{pick-true, pick-false}
+use Rattle.page.specs.Page.{lastBase}
 use Rattle.page.specs.Pages.{pages}
 use Rattle.log.specs.Record.{Begin}
 use Rattle.tree.specs.Tree.{Leaf, leavesOf}
@@ -61,7 +62,6 @@ pub record Grouped (w : List ℕ) (u : ℕ) (g : Begin) : Type 0 where
   pub few-join : length with ≤ 7
   pub fits : weight (leafOf w) (entry ∷ with) ≤ 15
   pub low : ℕ
-  pub low-enough : 7 ≤ low
   pub is : g ≡ compactBegin u fill (top .page) (pagesOf (entry ∷ with)) (lowestEmpty low (entry .page) 0 (pages w))
 
 module _ (w : List ℕ) (tidy : Tidy w) (u fill : ℕ) (g : Begin) (c : Compacted u fill (pages w) (leavesOf (pages w)) g)
@@ -136,7 +136,6 @@ module _ (w : List ℕ) (tidy : Tidy w) (u fill : ℕ) (g : Begin) (c : Compacte
             (λ (h : sum + weight (leafOf w) (joined .with) ≤ fill). omega arith)
             (joined .fits);
         low = c .low;
-        low-enough = c .low-enough;
         is = begun;
       }
 
@@ -144,6 +143,6 @@ module _ (w : List ℕ) (tidy : Tidy w) (u fill : ℕ) (g : Begin) (c : Compacte
 pub grouped : (w : List ℕ) → Tidy w → (u fill : ℕ) (lk : Option ℕ) (g : Begin) → fill ≤ 15 → compactUnit u fill lk (pages w) ≡ some g → Grouped w u g
 unfolding compactUnit
 grouped w tidy u fill lk g hf chosen =
-    let c = compacted u (fillOf fill) 7 lk (pages w) (leavesOf (pages w)) g (omega arith) chosen in
+    let c = compacted u (fillOf fill) lastBase lk (pages w) (leavesOf (pages w)) g chosen in
     let p = spot (stateOf w) (rootOf w) (c .before) (c .first) (c .next) (sym (leaves-of w (sound w tidy)) ∙ c .all-leaves) in
     grouped-in w tidy u (fillOf fill) g c p (fill-1 fill) (fill-15 fill hf)

@@ -1,4 +1,4 @@
--- What is known of tidy pages: the regions of their entries, at most 15 records on a leaf, at most 56 leaves; and that a unit which runs over
+-- What is known of tidy pages: the regions of their entries, at most 15 records on a leaf, no more leaves than leaf pages; and that a unit which runs over
 -- their tree keeps them tidy. Assumes nothing.
 use Prim.Native.Nat.{ℕ, zero, suc, _+_, _≤_, _<_}
 use native.Mathlib.Omega.{arith}
@@ -10,12 +10,14 @@ use borrow.Author.Tests.{eq-eqb}
 use lib.ListN.{length}
 use Rattle.field.specs.Bytes.{le2}
 use Rattle.field.proofs.Part.{split}
-use Rattle.page.specs.Page.{count, rows, rowsOf, entries, records, isLeaf, isEmpty}
+use Rattle.page.specs.Page.{count, rows, rowsOf, entries, records, firstBase, lastBase, firstLeaf, lastLeaf, leafPages, isLeaf, isEmpty}
 use Rattle.page.specs.Pages.{page}
+use Rattle.page.specs.Places.{Basic, Leafy, emptyLeaf}
+use Rattle.page.proofs.Places.{empty-leaf, empty-leaf-in}
 use Rattle.log.specs.Record.{Begin}
 use Rattle.log.specs.Plan.{plan}
 use Rattle.log.specs.Log.{beginOk}
-use Rattle.unit.proofs.Places.{Leafy, Basic, plan-keeps}
+use Rattle.unit.proofs.Places.{plan-keeps}
 use Rattle.tidy.specs.Tidy.{Sound, Tidy, Keeps}
 use Rattle.tidy.proofs.Model.{Entry, pointers, beneath, State, Tree, level, contents, All}
 use Rattle.tidy.proofs.Trail.{eq?, full≤}
@@ -66,6 +68,10 @@ all-beneath P base (e ∷ es) h = all-join P (base (e .page)) (beneath base es) 
 
 -- ---- tidy pages
 
+-- an entry points into the leaf pages
+abbrev Inside : Entry → Type 0
+Inside e = (firstLeaf ≤ e .page) × (e .page < firstLeaf + leafPages)
+
 module _ (w : List ℕ) (tidy : Tidy w) where
   -- they are pages of bytes in form
   pub sound : Sound w
@@ -77,17 +83,17 @@ module _ (w : List ℕ) (tidy : Tidy w) where
 
   -- root entries point to base pages, base entries to leaf pages
   pub root-basic : All (λ e. Basic (e .page)) (rootOf w)
-  root-basic = pointing-ents 1 7 (entries (page 0 w)) (root-into w sound)
+  root-basic = pointing-ents firstBase lastBase (entries (page 0 w)) (root-into w sound)
 
   -- base entries point to leaf pages
   pub base-leafy : (p : ℕ) → Basic p → All (λ e. Leafy (e .page)) (baseOf w p)
-  base-leafy p h = rw (base-at w p (h .0) (h .1)) (pointing-ents 8 63 (entries (page p w)) (base-into w sound p (h .0) (h .1)))
+  base-leafy p h = rw (base-at w p (h .0) (h .1)) (pointing-ents firstLeaf lastLeaf (entries (page p w)) (base-into w sound p (h .0) (h .1)))
 
   -- a leaf has at most 15 records
   pub leaf-short : (p : ℕ) → length (leafOf w p) ≤ 15
   unfolding rows rowsOf count le2
   leaf-short p =
-      split p 8
+      split p firstLeaf
       (λ h. rw (leaf-not w p h) (omega arith))
       (λ h. split p 64
       (λ k. rw (leaf-at w p h)
@@ -97,24 +103,26 @@ module _ (w : List ℕ) (tidy : Tidy w) where
       (leaf-form p (page p w) h (sound-page p w sound k))))
       (λ k. omega (arith, ap length (leaf-at w p h ∙ ap records (page-past p w (sound .whole) k)))))
 
-  -- an empty page holds no records
-  pub empty-leaf : (p : ℕ) → 8 ≤ p → isEmpty (page p w) ≡ true → leafOf w p ≡ []
-  empty-leaf p h e = leaf-at w p h ∙ rows-empty 16 (page p w) e
+  -- an empty leaf page holds no records
+  pub empty-place : (p : ℕ) → emptyLeaf p (page p w) ≡ true → leafOf w p ≡ []
+  empty-place p e =
+      let h : Leafy p = empty-leaf-in p (page p w) e in
+      leaf-at w p (h .0) ∙ rows-empty 16 (page p w) (sym (empty-leaf p (page p w) h) ∙ e)
 
   -- no page is pointed to twice
   pub pointed-once : (p : ℕ) → pointers p (level (rootOf w) (stateOf w)) ≤ 1
   pointed-once p = omega (arith, tree .lower .pointed p, full≤ (leafOf w p))
 
-  -- there are at most 56 leaves
-  pub few-leaves : length (level (rootOf w) (stateOf w)) ≤ 56
+  -- there are no more leaves than leaf pages
+  pub few-leaves : length (level (rootOf w) (stateOf w)) ≤ leafPages
   few-leaves =
-      let inside : All (λ e. (8 ≤ e .page) × (e .page < 8 + 56)) (level (rootOf w) (stateOf w)) =
-      all-beneath (λ e. (8 ≤ e .page) × (e .page < 8 + 56)) (baseOf w) (rootOf w)
-      (all-map (λ e. Basic (e .page)) (λ e. All (λ x. (8 ≤ x .page) × (x .page < 8 + 56)) (baseOf w (e .page))) (rootOf w)
-      (λ e h. all-map (λ x. Leafy (x .page)) (λ x. (8 ≤ x .page) × (x .page < 8 + 56)) (baseOf w (e .page)) (λ x k. (k .0, omega (arith, k .1)))
+      let inside : All Inside (level (rootOf w) (stateOf w)) =
+      all-beneath Inside (baseOf w) (rootOf w)
+      (all-map (λ e. Basic (e .page)) (λ e. All Inside (baseOf w (e .page))) (rootOf w)
+      (λ e h. all-map (λ x. Leafy (x .page)) Inside (baseOf w (e .page)) (λ x k. (k .0, omega (arith, k .1)))
       (base-leafy (e .page) h))
       root-basic) in
-      omega (arith, tally-length 8 56 (level (rootOf w) (stateOf w)) inside, tally-most 8 56 (level (rootOf w) (stateOf w)) pointed-once)
+      omega (arith, tally-length firstLeaf leafPages (level (rootOf w) (stateOf w)) inside, tally-most firstLeaf leafPages (level (rootOf w) (stateOf w)) pointed-once)
 
   -- ---- a unit that runs over the tree is carried out, and the pages are tidy after it
 

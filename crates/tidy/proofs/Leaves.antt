@@ -10,7 +10,7 @@ use borrow.Author.Tests.{eq-eqb, ne-eqb}
 use lib.Dec.{eqb}
 use lib.ListN.{length, getD, length-append, length-map}
 use Rattle.field.proofs.Test.{pick-true, pick-false}
-use Rattle.page.specs.Page.{keyOf, toPage, entries, pointing}
+use Rattle.page.specs.Page.{keyOf, toPage, entries, firstBase, lastBase, firstLeaf, lastLeaf, toBases, toLeaves}
 use Rattle.page.specs.Pages.{page, pages}
 use Rattle.tree.specs.Tree.{under, Leaf, leafAt, leavesUnder, leavesBelow, leavesOf}
 use Rattle.unit.specs.Choice.{baseOf}
@@ -176,26 +176,26 @@ module _ (s : State) where
 
 module _ (w : List ℕ) (sound : Sound w) where
   -- one leaf
-  one-leaf : (b : ℕ) (e : List ℕ) → 8 ≤ toPage e → toPage e ≤ 63 → leafAt (pages w) b e ≡ leafFor (stateOf w) b (ent e)
+  one-leaf : (b : ℕ) (e : List ℕ) → firstLeaf ≤ toPage e → toPage e ≤ lastLeaf → leafAt (pages w) b e ≡ leafFor (stateOf w) b (ent e)
   unfolding leafAt
   one-leaf b e h k =
       ap (λ (rs : List (List ℕ)). record { base = b; at = toPage e; count = length rs; first = keyOf (getD rs 0 []) }) (sym (leaf-under w sound e h k))
 
   -- those of a base page
-  page-leaves : (b : ℕ) (es : List (List ℕ)) → pointing 8 63 es ≡ true → leavesUnder (pages w) b es ≡ map (leafFor (stateOf w) b) (ents es)
+  page-leaves : (b : ℕ) (es : List (List ℕ)) → toLeaves es ≡ true → leavesUnder (pages w) b es ≡ map (leafFor (stateOf w) b) (ents es)
   unfolding leavesUnder
   page-leaves b [] h = refl
   page-leaves b (e ∷ es) h =
-      let i : Into 8 63 e es = into 8 63 e es h in
+      let i : Into firstLeaf lastLeaf e es = into firstLeaf lastLeaf e es h in
       ap₂ (λ (x : Leaf) (xs : List Leaf). x ∷ xs) (one-leaf b e (i .low) (i .high)) (page-leaves b es (i .rest))
 
   -- those below root entries
-  below-leaves : (es : List (List ℕ)) → pointing 1 7 es ≡ true → leavesBelow (pages w) es ≡ leavesAll (stateOf w) (ents es)
+  below-leaves : (es : List (List ℕ)) → toBases es ≡ true → leavesBelow (pages w) es ≡ leavesAll (stateOf w) (ents es)
   unfolding leavesBelow
   below-leaves [] h = refl
   below-leaves (e ∷ es) h =
-      let i : Into 1 7 e es = into 1 7 e es h in
-      let q : pointing 8 63 (entries (under (pages w) e)) ≡ true = rw (under-page w sound e (omega (arith, i .high))) (base-into w sound (toPage e) (i .low) (i .high)) in
+      let i : Into firstBase lastBase e es = into firstBase lastBase e es h in
+      let q : toLeaves (entries (under (pages w) e)) ≡ true = rw (under-page w sound e (omega (arith, i .high))) (base-into w sound (toPage e) (i .low) (i .high)) in
       ap₂ (λ (x y : List Leaf). x ++ y)
       (page-leaves (toPage e) (entries (under (pages w) e)) q ∙ ap (map (leafFor (stateOf w) (toPage e))) (sym (base-under w sound e (i .low) (i .high))))
       (below-leaves es (i .rest))

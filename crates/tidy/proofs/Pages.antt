@@ -13,7 +13,8 @@ use Rattle.field.specs.Test.{pick}
 use Rattle.field.specs.Bytes.{part, Bytes}
 use Rattle.field.proofs.Test.{both-1, both-2, pick-or}
 use Rattle.field.proofs.Part.{split}
-use Rattle.page.specs.Page.{count, root, base, leaf, empty, rows, rowsOf, entries, records, pointing, isRoot, isBase, isLeaf, isEmpty, formed}
+use Rattle.page.specs.Page.{count, root, base, leaf, empty, rows, rowsOf, entries, records, isRoot, isBase, isLeaf, isEmpty, formed}
+use Rattle.page.specs.Page.{firstBase, lastBase, firstLeaf, toBases}
 use Rattle.page.specs.Pages.{page, putPage}
 use Rattle.page.proofs.Made.{shaped-facts, Fill, fit-leaf, fit-base, fit-root}
 use Rattle.page.proofs.Region.{fill-of}
@@ -31,18 +32,18 @@ unfolding formed pick
 root-form pg e = rw (eq-eqb 0 0 refl) at e
 
 -- a base page: empty, or of entries
-pub base-form : (p : ℕ) (pg : List ℕ) → 1 ≤ p → p ≤ 7 → formed p pg ≡ true → (isEmpty pg ≡ true) ⊎ (isBase pg ≡ true)
+pub base-form : (p : ℕ) (pg : List ℕ) → firstBase ≤ p → p ≤ lastBase → formed p pg ≡ true → (isEmpty pg ≡ true) ⊎ (isBase pg ≡ true)
 unfolding formed
-base-form p pg h k e = by-tests (eqb p 0) (ne-eqb p 0 (λ z. omega arith)) (leb p 7) (le-leb p 7 k) e
+base-form p pg h k e = by-tests (eqb p 0) (ne-eqb p 0 (λ z. omega arith)) (leb p lastBase) (le-leb p lastBase k) e
   where
     by-tests : (t : Bool) → t ≡ false → (u : Bool) → u ≡ true → pick t (isRoot pg) (pick (isEmpty pg) true (pick u (isBase pg) (isLeaf pg))) ≡ true
         → (isEmpty pg ≡ true) ⊎ (isBase pg ≡ true)
     by-tests t a u b f = pick-or (isEmpty pg) (isBase pg) (unfold pick in (rw (a, b) at f))
 
 -- a leaf page: empty, or of records
-pub leaf-form : (p : ℕ) (pg : List ℕ) → 8 ≤ p → formed p pg ≡ true → (isEmpty pg ≡ true) ⊎ (isLeaf pg ≡ true)
+pub leaf-form : (p : ℕ) (pg : List ℕ) → firstLeaf ≤ p → formed p pg ≡ true → (isEmpty pg ≡ true) ⊎ (isLeaf pg ≡ true)
 unfolding formed
-leaf-form p pg h e = by-tests (eqb p 0) (ne-eqb p 0 (λ z. omega arith)) (leb p 7) (lt-leb p 7 h) e
+leaf-form p pg h e = by-tests (eqb p 0) (ne-eqb p 0 (λ z. omega arith)) (leb p lastBase) (lt-leb p lastBase h) e
   where
     by-tests : (t : Bool) → t ≡ false → (u : Bool) → u ≡ false → pick t (isRoot pg) (pick (isEmpty pg) true (pick u (isBase pg) (isLeaf pg))) ≡ true
         → (isEmpty pg ≡ true) ⊎ (isLeaf pg ≡ true)
@@ -69,7 +70,7 @@ unfolding isRoot
 root-rows pg e = fill-of root pg fit-root (both-1 _ _ e)
 
 -- the root's entries point to base pages
-pub root-pointing : (pg : List ℕ) → isRoot pg ≡ true → pointing 1 7 (entries pg) ≡ true
+pub root-pointing : (pg : List ℕ) → isRoot pg ≡ true → toBases (entries pg) ≡ true
 unfolding isRoot
 root-pointing pg e = both-2 _ _ e
 
@@ -88,31 +89,32 @@ page-past p w e h = let k : length w ≤ 256 * p = omega arith in rw (drop-of-le
 
 -- the records of a leaf page
 abbrev pub leafOf : List ℕ → ℕ → List (List ℕ)
-leafOf w p = cond (leb 8 p) (records (page p w)) []
+leafOf w p = cond (leb firstLeaf p) (records (page p w)) []
 
 -- the entries of a base page
 abbrev pub baseOf : List ℕ → ℕ → List Entry
-baseOf w p = cond (leb 1 p) (cond (leb p 7) (ents (entries (page p w))) []) []
+baseOf w p = cond (leb firstBase p) (cond (leb p lastBase) (ents (entries (page p w))) []) []
 
 -- the root's entries
 abbrev pub rootOf : List ℕ → List Entry
 rootOf w = ents (entries (page 0 w))
 
 -- of a leaf page
-pub leaf-at : (w : List ℕ) (p : ℕ) → 8 ≤ p → leafOf w p ≡ records (page p w)
-leaf-at w p h = rw (le-leb 8 p h)
+pub leaf-at : (w : List ℕ) (p : ℕ) → firstLeaf ≤ p → leafOf w p ≡ records (page p w)
+leaf-at w p h = rw (le-leb firstLeaf p h)
 
 -- of any other
-pub leaf-not : (w : List ℕ) (p : ℕ) → p < 8 → leafOf w p ≡ []
-leaf-not w p h = rw (lt-leb 8 p h)
+pub leaf-not : (w : List ℕ) (p : ℕ) → p < firstLeaf → leafOf w p ≡ []
+leaf-not w p h = rw (lt-leb firstLeaf p h)
 
 -- of a base page
-pub base-at : (w : List ℕ) (p : ℕ) → 1 ≤ p → p ≤ 7 → baseOf w p ≡ ents (entries (page p w))
-base-at w p h k = rw (le-leb 1 p h, le-leb p 7 k)
+pub base-at : (w : List ℕ) (p : ℕ) → firstBase ≤ p → p ≤ lastBase → baseOf w p ≡ ents (entries (page p w))
+base-at w p h k = rw (le-leb firstBase p h, le-leb p lastBase k)
 
 -- of any other
-pub base-not : (w : List ℕ) (p : ℕ) → (p ≡ 0) ⊎ (8 ≤ p) → baseOf w p ≡ []
-base-not w p s = ⊎-elim (λ (e : p ≡ 0). rw (lt-leb 1 p (omega arith))) (λ (h : 8 ≤ p). rw (le-leb 1 p (omega arith), lt-leb p 7 h)) s
+pub base-not : (w : List ℕ) (p : ℕ) → (p ≡ 0) ⊎ (firstLeaf ≤ p) → baseOf w p ≡ []
+base-not w p s =
+    ⊎-elim (λ (e : p ≡ 0). rw (lt-leb firstBase p (omega arith))) (λ (h : firstLeaf ≤ p). rw (le-leb firstBase p (omega arith), lt-leb p lastBase h)) s
 
 -- ---- a page replaced
 
@@ -138,32 +140,32 @@ module _ (p : ℕ) (pg w : List ℕ) (sound : Sound w) (small : p < 64) (long : 
       (λ h. page-past q (putPage p pg w) (length-putPage p w (sound .whole) small pg long) h ∙ sym (page-past q w (sound .whole) h))
 
   -- a leaf page
-  pub put-leaf : 8 ≤ p → (q : ℕ) → upd (leafOf w) p (records pg) q ≡ leafOf (putPage p pg w) q
+  pub put-leaf : firstLeaf ≤ p → (q : ℕ) → upd (leafOf w) p (records pg) q ≡ leafOf (putPage p pg w) q
   put-leaf h q =
       ⊎-elim
-      (λ (e : q ≡ p). rw (eq-eqb q p e, e, le-leb 8 p h, page-same))
+      (λ (e : q ≡ p). rw (eq-eqb q p e, e, le-leb firstLeaf p h, page-same))
       (λ (d : q ≢ p). rw (ne-eqb q p d, page-other q d))
       (eq? q p)
 
   -- base pages stay
-  pub put-leaf-base : 8 ≤ p → (q : ℕ) → baseOf w q ≡ baseOf (putPage p pg w) q
+  pub put-leaf-base : firstLeaf ≤ p → (q : ℕ) → baseOf w q ≡ baseOf (putPage p pg w) q
   put-leaf-base h q =
-      split q 8
+      split q firstLeaf
       (λ k. rw (page-other q (λ e. omega arith)))
       (λ k. base-not w q (inr k) ∙ sym (base-not (putPage p pg w) q (inr k)))
 
   -- a base page
-  pub put-base : 1 ≤ p → p ≤ 7 → (q : ℕ) → upd (baseOf w) p (ents (entries pg)) q ≡ baseOf (putPage p pg w) q
+  pub put-base : firstBase ≤ p → p ≤ lastBase → (q : ℕ) → upd (baseOf w) p (ents (entries pg)) q ≡ baseOf (putPage p pg w) q
   put-base h k q =
       ⊎-elim
-      (λ (e : q ≡ p). rw (eq-eqb q p e, e, le-leb 1 p h, le-leb p 7 k, page-same))
+      (λ (e : q ≡ p). rw (eq-eqb q p e, e, le-leb firstBase p h, le-leb p lastBase k, page-same))
       (λ (d : q ≢ p). rw (ne-eqb q p d, page-other q d))
       (eq? q p)
 
   -- leaf pages stay
-  pub put-base-leaf : p ≤ 7 → (q : ℕ) → leafOf w q ≡ leafOf (putPage p pg w) q
+  pub put-base-leaf : p ≤ lastBase → (q : ℕ) → leafOf w q ≡ leafOf (putPage p pg w) q
   put-base-leaf h q =
-      split q 8
+      split q firstLeaf
       (λ k. leaf-not w q k ∙ sym (leaf-not (putPage p pg w) q k))
       (λ k. rw (page-other q (λ e. omega arith)))
 

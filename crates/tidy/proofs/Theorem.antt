@@ -1,6 +1,7 @@
 -- The tree half of demand 3: every unit that begin chooses on a well-formed tree can be carried out to its end, each step accepted, and leaves
 -- a well-formed tree with the same records. Assumes nothing.
 use Prim.Native.Nat.{ℕ, _+_, _≤_, _<_}
+use native.Mathlib.Nat.{zero-add}
 use native.Mathlib.Omega.{arith}
 use mathlib.Core.Path.{_≡_, refl, sym, ap, _∙_, subst}
 use mathlib.Core.Logic.{_≢_, _⊎_, inl, inr}
@@ -14,13 +15,14 @@ use Rattle.field.specs.Bytes.{most4}
 use Rattle.field.proofs.Test.{pick-true, pick-false}
 use Rattle.page.specs.Page.{isEmpty}
 use Rattle.page.specs.Pages.{page, pages}
+use Rattle.page.specs.Places.{Basic, Leafy, emptyLeaf, place}
+use Rattle.page.proofs.Places.{empty-leaf, empty-leaf-in, place-in}
 use Rattle.page.proofs.Pages.{getD-pages}
 use Rattle.log.specs.Record.{Begin}
 use Rattle.log.specs.Plan.{Step, close, compactPlan, movePlan, swapPlan, plan}
 use Rattle.tree.specs.Tree.{Leaf, leavesOf}
-use Rattle.unit.specs.Choice.{lowestEmpty, compactUnit, place, moveOf, swapOf, putInOrder, orderUnit, oneOrTwo}
+use Rattle.unit.specs.Choice.{lowestEmpty, compactUnit, moveOf, swapOf, putInOrder, orderUnit, oneOrTwo}
 use Rattle.unit.specs.Choice as Choice
-use Rattle.unit.proofs.Places.{Leafy, Basic}
 use Rattle.tidy.specs.Tidy.{Tidy, Keeps, CompactKeeps, OrderKeeps}
 use Rattle.tidy.proofs.Model.{Entry, pointers, full, State, Tree, level, All}
 use Rattle.tidy.proofs.Trail.{pointers-append}
@@ -37,7 +39,7 @@ use Rattle.tidy.proofs.Leaves.{leavesAll, Spot, spot, length-leaves, st
 use Rattle.tidy.proofs.Chosen.{lowest-empty, Ordered, ordered}
 use Rattle.tidy.proofs.Group.{Grouped, grouped}
 use Rattle.tidy.proofs.Begun.{compactBegin, moveBegin, swapBegin, compact-ok, move-ok, swap-ok, bases-read, listed-none, apart-compact, apart-new, apart-move, apart-swap}
-use Rattle.tidy.proofs.Known.{sound, tree, root-basic, base-leafy, leaf-short, empty-leaf, pointed-once, few-leaves, finish}
+use Rattle.tidy.proofs.Known.{sound, tree, root-basic, base-leafy, leaf-short, empty-place, pointed-once, few-leaves, finish}
 
 -- ---- the plans of the begin records
 
@@ -156,16 +158,15 @@ module _ (w : List ℕ) (tidy : Tidy w) where
     -- C's own page, or an empty one
     either-place : n + length (plan (begun dest)) ≤ 4294967296
         → (dest ≡ x .page)
-        ⊎ ((i : ℕ) × (i < length (pages w)) × (dest ≡ 0 + i) × (c .low < 0 + i) × (0 + i < x .page) × (isEmpty (getD (pages w) i []) ≡ true))
+        ⊎ ((i : ℕ) × (i < length (pages w)) × (dest ≡ 0 + i) × (0 + i < x .page) × (emptyLeaf (0 + i) (getD (pages w) i []) ≡ true))
         → Keeps n (begun dest) w
     either-place few (inl e) = rw e (in-place (rw e at few))
     either-place few (inr d) =
         let i : ℕ = d .0 in
-        let e : dest ≡ i = d .2 ∙ (let z : 0 + i ≡ i = omega arith in z) in
-        let lo : 8 ≤ i = omega (arith, d .3, c .low-enough) in
-        let hi : i ≤ 63 = omega (arith, d .4, leafy .0 .1) in
-        let blank : isEmpty (page i w) ≡ true = rw (getD-pages i w (omega arith)) at (d .5) in
-        rw e (new-place i (lo, hi) (λ q. omega (arith, d .4)) (empty-leaf w tidy i lo blank) (rw e at few))
+        let e : dest ≡ i = d .2 ∙ zero-add i in
+        let on : Leafy i = empty-leaf-in i (getD (pages w) i []) (rw (zero-add i) at (d .4)) in
+        let blank : emptyLeaf i (page i w) ≡ true = rw (zero-add i, getD-pages i w (omega arith)) at (d .4) in
+        rw e (new-place i on (λ q. omega (arith, d .3)) (empty-place w tidy i blank) (rw e at few))
 
   -- every unit that begin compact chooses
   by-compact : (n u fill : ℕ) (lk : Option ℕ) (g : Begin) → u ≤ most4 → fill ≤ 15 → compactUnit u fill lk (pages w) ≡ some g
@@ -188,7 +189,7 @@ module _ (w : List ℕ) (tidy : Tidy w) where
       (subst (All (λ r. Leafy (r .page))) (p .entries) (base-leafy w tidy (p .top .page) (spot-basic c next p))) .0
 
   -- a leaf moved to an empty page
-  moves : (n u : ℕ) (c : Leaf) (next : List Leaf) (p : Spot s root c next) (d : ℕ) → u ≤ most4 → Leafy d → p .entry .page ≢ d → isEmpty (page d w) ≡ true
+  moves : (n u : ℕ) (c : Leaf) (next : List Leaf) (p : Spot s root c next) (d : ℕ) → u ≤ most4 → Leafy d → p .entry .page ≢ d → emptyLeaf d (page d w) ≡ true
       → n + length (plan (moveBegin u (p .top .page) (p .entry .page) d)) ≤ 4294967296 → Keeps n (moveBegin u (p .top .page) (p .entry .page) d) w
   moves n u c next p d hu hd apart blank few =
       let b : ℕ = p .top .page in
@@ -197,7 +198,7 @@ module _ (w : List ℕ) (tidy : Tidy w) where
       finish w tidy n (moveBegin u b a d) (move-ok u b a d hu (spot-basic c next p) (spot-leafy c next p) hd (λ z. apart (sym z)))
       (rw q (apart-move b a d u)) few
       (rw q
-      (move root s (tree w tidy) (p .entry) b (p .before) (p .after) (p .entries) d (empty-leaf w tidy d (hd .0) blank) (leaf-short w tidy a) u
+      (move root s (tree w tidy) (p .entry) b (p .before) (p .after) (p .entries) d (empty-place w tidy d blank) (leaf-short w tidy a) u
       (omega (arith, hd .0))))
 
   -- A's leaf stands at p, B's at q
@@ -218,9 +219,9 @@ module _ (w : List ℕ) (tidy : Tidy w) where
       (leaf-short w tidy a) (leaf-short w tidy b) u (omega (arith, la .0)) (omega (arith, lb .0))))
 
   -- the leaf that stands where another belongs
-  holder : (d : ℕ) → Leafy d → isEmpty (page d w) ≡ false → Standing s d (leavesAll s root)
+  holder : (d : ℕ) → Leafy d → emptyLeaf d (page d w) ≡ false → Standing s d (leavesAll s root)
   holder d hd held =
-      let full-d : full (leafOf w d) ≡ 1 = full-leaf w (sound w tidy) d (hd .0) (hd .1) ∙ pick-false (isEmpty (page d w)) 0 1 held in
+      let full-d : full (leafOf w d) ≡ 1 = full-leaf w (sound w tidy) d (hd .0) (hd .1) ∙ pick-false (isEmpty (page d w)) 0 1 (sym (empty-leaf d (page d w) hd) ∙ held) in
       stands s d (leavesAll s root) (omega (arith, standing-all s d root, tree w tidy .lower .pointed d))
 
   module _ (n u : ℕ) (g : Begin) (hu : u ≤ most4) (few : n + length (plan g) ≤ 4294967296) (o : Ordered u (pages w) (leavesOf (pages w)) 0 (leavesOf (pages w)) g) where
@@ -234,28 +235,27 @@ module _ (w : List ℕ) (tidy : Tidy w) where
 
     -- there is such a page
     wanted-leafy : Leafy wanted
-    unfolding place
     wanted-leafy =
         let k = ap length (sym (leaves-of w (sound w tidy)) ∙ o .all-leaves) ∙ length-append (o .before) (o .leaf ∷ o .next) in
-        (omega arith, omega (arith, k, length-leaves s root, few-leaves w tidy))
+        place-in (0 + length (o .before)) (omega (arith, k, length-leaves s root, few-leaves w tidy))
 
     -- the leaf stands elsewhere
     apart : p .entry .page ≢ wanted
     apart q = o .misplaced (ap (λ (l : Leaf). l .at) (p .leaf) ∙ q)
 
     -- its place is empty
-    to-empty : isEmpty (page wanted w) ≡ true → Keeps n g w
+    to-empty : emptyLeaf wanted (page wanted w) ≡ true → Keeps n g w
     unfolding putInOrder moveOf
     to-empty blank =
         let is : g ≡ moveBegin u (p .top .page) (p .entry .page) wanted =
         o .is
-        ∙ pick-true (isEmpty (getD (pages w) wanted [])) _ _ (ap isEmpty (getD-pages wanted w (omega (arith, wanted-leafy .1))) ∙ blank)
+        ∙ pick-true (emptyLeaf wanted (getD (pages w) wanted [])) _ _ (ap (emptyLeaf wanted) (getD-pages wanted w (omega (arith, wanted-leafy .1))) ∙ blank)
         ∙ ap (λ (l : Leaf). moveBegin u (l .base) (l .at) wanted) (p .leaf) in
         subst (λ (h : Begin). Keeps n h w) (sym is)
         (moves n u (o .leaf) (o .next) p wanted hu wanted-leafy apart blank (subst (λ (h : Begin). n + length (plan h) ≤ 4294967296) is few))
 
     -- another leaf stands there
-    to-held : isEmpty (page wanted w) ≡ false → Keeps n g w
+    to-held : emptyLeaf wanted (page wanted w) ≡ false → Keeps n g w
     unfolding putInOrder swapOf
     to-held held =
         let a = holder wanted wanted-leafy held in
@@ -265,16 +265,16 @@ module _ (w : List ℕ) (tidy : Tidy w) where
         ap (Choice.baseOf wanted) (leaves-of w (sound w tidy)) ∙ a .under-base ∙ ap (λ (l : Leaf). l .base) (q .leaf) in
         let is : g ≡ swapBegin u (q .top .page) (p .top .page) (q .entry .page) (p .entry .page) =
         o .is
-        ∙ pick-false (isEmpty (getD (pages w) wanted [])) _ _ (ap isEmpty (getD-pages wanted w (omega (arith, wanted-leafy .1))) ∙ held)
+        ∙ pick-false (emptyLeaf wanted (getD (pages w) wanted [])) _ _ (ap (emptyLeaf wanted) (getD-pages wanted w (omega (arith, wanted-leafy .1))) ∙ held)
         ∙ (λ i. swapBegin u (base-a i) (p .leaf i .base) (sym on i) (p .leaf i .at)) in
         subst (λ (h : Begin). Keeps n h w) (sym is)
         (swaps n u (a .leaf) (o .leaf) (a .after) (o .next) q p hu (λ z. apart (sym z ∙ on)) (subst (λ (h : Begin). n + length (plan h) ≤ 4294967296) is few))
 
     -- either way
     in-order : Keeps n g w
-    in-order = by-test (isEmpty (page wanted w)) refl
+    in-order = by-test (emptyLeaf wanted (page wanted w)) refl
       where
-        by-test : (t : Bool) → isEmpty (page wanted w) ≡ t → Keeps n g w
+        by-test : (t : Bool) → emptyLeaf wanted (page wanted w) ≡ t → Keeps n g w
         by-test true e = to-empty e
         by-test false e = to-held e
 

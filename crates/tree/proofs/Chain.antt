@@ -14,7 +14,7 @@ use Rattle.field.specs.Bytes.{part, zeroes, Bytes, le4}
 use Rattle.field.proofs.Test.{all-one, all-true, all-false}
 use Rattle.field.proofs.Part.{split}
 use Rattle.field.proofs.Zero.{getD-zeroes}
-use Rattle.page.specs.Page.{rowsOf, keyOf, toPage, pointing, count, rows}
+use Rattle.page.specs.Page.{rowsOf, keyOf, toPage, pointing, count, rows, firstBase, lastBase, toBases}
 use Rattle.page.specs.Pages.{page, pages}
 use Rattle.page.specs.Each.{Each}
 use Rattle.page.proofs.Rows.{length-rows, bytes-rowsOf}
@@ -43,11 +43,11 @@ module _ (w : List ℕ) (f : InForm w) (n : ℕ) (e : n ≡ count (page 0 w)) wh
   pub root-room : 16 + 8 * n ≤ length (take 256 w)
   root-room = rw (root-lent w) (omega (arith, root-ordered w f .room, root-ordered w f .whole))
 
-  pub root-points-in : pointing 1 7 (rowsOf 8 n (drop 16 (take 256 w))) ≡ true
+  pub root-points-in : toBases (rowsOf 8 n (drop 16 (take 256 w))) ≡ true
   root-points-in = rw (root-rows, root-entries w) (root-points (page 0 w) (root-formed w f))
 
   pub root-points-wide : pointing 0 63 (rowsOf 8 n (drop 16 (take 256 w))) ≡ true
-  root-points-wide = pointing-wider 1 7 0 63 _ (omega arith) (omega arith) root-points-in
+  root-points-wide = pointing-wider firstBase lastBase 0 63 _ (omega arith) (omega arith) root-points-in
 
   -- ---- counting
 

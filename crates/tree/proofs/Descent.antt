@@ -13,7 +13,9 @@ use Rattle.field.specs.Test.{both, pick, given}
 use Rattle.field.specs.Bytes.{part, put, zeroes, le2, le4}
 use Rattle.field.proofs.Test.{both-1, both-2, both-true, both-false, pick-either, need-true, need-false}
 use Rattle.field.proofs.Part.{split, part-drop, part-part, length-part, lent-part, put-front}
-use Rattle.page.specs.Page.{root, base, leaf, empty, rowsOf, keyOf, toPage, valueOf, pointing, letter, count, rows, entries, records, isRoot, isBase, isLeaf, isEmpty, formed}
+use Rattle.page.specs.Page.{root, base, leaf, empty, rowsOf, keyOf, toPage, valueOf, pointing, letter, count, rows, entries, records}
+use Rattle.page.specs.Page.{firstBase, lastBase, firstLeaf, lastLeaf, isRoot, isBase, isLeaf, isEmpty, formed}
+use Rattle.page.specs.Places.{Basic, Leafy}
 use Rattle.page.specs.Pages.{page}
 use Rattle.page.proofs.Rows.{rowsOf-add, key-row, page-row}
 use Rattle.page.proofs.Turns.{rows-next}
@@ -115,11 +117,11 @@ module _ (p : ℕ) (pg : List ℕ) where
       (λ t. decide z (λ y. absurd (ne y (shaped-facts empty pg (empty-shaped pg t) .lettered))) (λ y. y ∙ sym (rw (f, t))))
       (λ t. decide z (λ y. y ∙ sym (rw (f, t, y))) (λ y. y ∙ sym (rw (f, t, y))))
 
-  pub node-base! : (z : Bool) → z ≡ isBase pg → (p ≡ 0 → ⊥) → p < 8 → z ≡ passable p pg
+  pub node-base! : (z : Bool) → z ≡ isBase pg → (p ≡ 0 → ⊥) → p < firstLeaf → z ≡ passable p pg
   node-base! z e ne h =
       e ∙ only (isBase pg) (λ y l. omega (arith, shaped-facts base pg (base-shaped pg y) .lettered)) (formed-low p pg (positive p ne) (omega arith))
 
-  leaf-only : 7 < p → isLeaf pg ≡ passable p pg
+  leaf-only : lastBase < p → isLeaf pg ≡ passable p pg
   leaf-only h = only (isLeaf pg) (λ y l. omega (arith, shaped-facts leaf pg (leaf-shaped pg y) .lettered)) (formed-high p pg (omega arith) h)
 
 pub node-root! : (p : ℕ) (pg : List ℕ) (z : Bool) → z ≡ isRoot pg → p ≡ 0 → z ≡ passable p pg
@@ -139,7 +141,7 @@ module _ (key p : ℕ) (pg : List ℕ) (z : Bool) where
       open-to : passable p pg ≡ true
       open-to = sym e ∙ not-false z h
 
-      pub entries-fit : p < 8 → 16 + 8 * n ≤ length pg
+      pub entries-fit : p < firstLeaf → 16 + 8 * n ≤ length pg
       unfolding passable
       entries-fit l =
           let f : formed p pg ≡ true = both-1 _ _ open-to in
@@ -150,19 +152,19 @@ module _ (key p : ℕ) (pg : List ℕ) (z : Bool) where
       way-through! r t = t ∙ rw k (sym (need-true _ _ _ open-to))
 
   module _ (e : z ≡ isLeaf pg) where
-    leaf-shut : 7 < p → not z ≡ true → leafIn key p pg ≡ missing 3
+    leaf-shut : lastBase < p → not z ≡ true → leafIn key p pg ≡ missing 3
     unfolding leafIn
     leaf-shut l h = need-false _ _ _ (sym (leaf-only p pg l) ∙ sym e ∙ not-true z h)
 
-    pub leaf-broken-reply! : (r : ℕ) → 7 < p → not z ≡ true → r ≡ 3 → r ≡ replyOf (leafIn key p pg)
+    pub leaf-broken-reply! : (r : ℕ) → lastBase < p → not z ≡ true → r ≡ 3 → r ≡ replyOf (leafIn key p pg)
     unfolding replyOf
     leaf-broken-reply! r l h g = g ∙ rw (leaf-shut l h)
 
-    pub leaf-broken-bytes! : (v : List ℕ) → 7 < p → not z ≡ true → v ≡ zeroes 10 → v ≡ bytesOf (leafIn key p pg)
+    pub leaf-broken-bytes! : (v : List ℕ) → lastBase < p → not z ≡ true → v ≡ zeroes 10 → v ≡ bytesOf (leafIn key p pg)
     unfolding bytesOf
     leaf-broken-bytes! v l h g = g ∙ rw (leaf-shut l h)
 
-    module _ (h : not z ≡ false) (n : ℕ) (k : n ≡ count pg) (l : 7 < p) where
+    module _ (h : not z ≡ false) (n : ℕ) (k : n ≡ count pg) (l : lastBase < p) where
       is-leaf : isLeaf pg ≡ true
       is-leaf = sym e ∙ not-false z h
 
@@ -221,13 +223,13 @@ way-points key p pg from to q e f =
     last-in key from to none (entries pg) (λ b g. absurd (let z : _≡_ {A = ℕ} 0 1 = none-some g in omega arith)) (f (both-1 _ _ (h .0))) q
     (to-some (lastNotAbove key none (entries pg)) q (h .1))
 
-pub way-from-root : (key : ℕ) (w : List ℕ) (q : ℕ) → wayDown key 0 w ≡ To q → (1 ≤ q) × (q ≤ 7)
+pub way-from-root : (key : ℕ) (w : List ℕ) (q : ℕ) → wayDown key 0 w ≡ To q → Basic q
 unfolding wayDown
-way-from-root key w q e = way-points key 0 (page 0 w) 1 7 q e (λ f. root-points (page 0 w) f)
+way-from-root key w q e = way-points key 0 (page 0 w) firstBase lastBase q e (λ f. root-points (page 0 w) f)
 
-pub way-from-base : (key p : ℕ) (w : List ℕ) (q : ℕ) → wayDown key p w ≡ To q → 1 ≤ p → p ≤ 7 → (8 ≤ q) × (q ≤ 63)
+pub way-from-base : (key p : ℕ) (w : List ℕ) (q : ℕ) → wayDown key p w ≡ To q → firstBase ≤ p → p ≤ lastBase → Leafy q
 unfolding wayDown
-way-from-base key p w q e h k = way-points key p (page p w) 8 63 q e (λ f. base-points p (page p w) f h k)
+way-from-base key p w q e h k = way-points key p (page p w) firstLeaf lastLeaf q e (λ f. base-points p (page p w) f h k)
 
 -- ---- the definition of find by these steps
 
@@ -270,7 +272,7 @@ module _ (key : ℕ) (w : List ℕ) where
       unfolding along
       at-base = at-root ∙ rw (← e, t) (down-along key b w (λ p. inLeaf key p w))
 
-      pub base-small : (1 ≤ b) × (b ≤ 7)
+      pub base-small : Basic b
       base-small = way-from-root key w b (sym e ∙ t)
 
       module _ (z : Way) (f : z ≡ wayDown key b w) where
@@ -287,7 +289,7 @@ module _ (key : ℕ) (w : List ℕ) where
         base-bytes! r v g h = h ∙ rw (stop-base r g)
 
         module _ (p : ℕ) (g : z ≡ To p) where
-          pub leaf-small : (8 ≤ p) × (p ≤ 63)
+          pub leaf-small : Leafy p
           leaf-small = way-from-base key b w p (sym f ∙ g) (base-small .0) (base-small .1)
 
           at-leaf : lookUp key w ≡ inLeaf key p w

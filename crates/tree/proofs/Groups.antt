@@ -15,12 +15,14 @@ use Rattle.field.proofs.Part.{split, part-part, lent-part}
 use Rattle.field.proofs.Zero.{length-zeroes}
 use Rattle.field.proofs.Test.{pick-either}
 use Rattle.field.proofs.Number.{le2-drop, le4-drop, le2-bytes2, le4-bytes4, le4-small}
-use Rattle.page.specs.Page.{leaf, rowsOf, keyOf, toPage, entry, letter, count, number, spare, rows, made}
+use Rattle.page.specs.Page.{leaf, firstBase, rowsOf, keyOf, toPage, entry, letter, count, number, spare, rows, made}
+use Rattle.page.specs.Places.{place, basePlace}
 use Rattle.page.specs.Each.{Each, nil, cons, Long}
 use Rattle.page.proofs.Rows.{getD-rowsOf, key-row, length-rowsOf}
+use Rattle.page.proofs.Places.{place-in, place-run}
 use Rattle.page.proofs.Made.{count-made}
 use Rattle.page.proofs.Images.{made-more, made-again}
-use Rattle.tree.specs.Layout.{groups, entriesFrom, fromZero, fresh, leafGroups, baseGroups}
+use Rattle.tree.specs.Layout.{groups, entriesTo, fromZero, fresh, leafGroups, baseGroups}
 use Rattle.tree.specs.Pieces.{pieces, leafKey, entryRun}
 
 -- ---- groups by their place
@@ -94,16 +96,20 @@ pub key-entry : (k p : ℕ) → k < 4294967296 → keyOf (entry k p) ≡ k
 unfolding keyOf entry
 key-entry k p h = sym (le4-drop 2 0 (entry k p)) ∙ le4-bytes4 k (bytes2 p) h
 
-pub length-entries : (p : ℕ) (gs : List (List (List ℕ))) → length (entriesFrom p gs) ≡ length gs
-unfolding entriesFrom
-length-entries p [] = refl
-length-entries p (g ∷ gs) = ap suc (length-entries (p + 1) gs)
+module _ (to : ℕ → ℕ) where
+  pub length-entries : (j : ℕ) (gs : List (List (List ℕ))) → length (entriesTo to j gs) ≡ length gs
+  unfolding entriesTo
+  length-entries j [] = refl
+  length-entries j (g ∷ gs) = ap suc (length-entries (j + 1) gs)
 
-pub entries-at : (p i : ℕ) (gs : List (List (List ℕ))) → i < length gs → getD (entriesFrom p gs) i [] ≡ entry (keyOf (getD (getD gs i []) 0 [])) (p + i)
-unfolding entriesFrom
-entries-at p i [] h = absurd (not-suc-le-zero h)
-entries-at p zero (g ∷ gs) h = rw (add-zero p)
-entries-at p (suc i) (g ∷ gs) h = let e : p + 1 + i ≡ p + suc i = omega arith in rw (← e) (entries-at (p + 1) i gs (omega arith))
+  entries-from : (j i : ℕ) (gs : List (List (List ℕ))) → i < length gs → getD (entriesTo to j gs) i [] ≡ entry (keyOf (getD (getD gs i []) 0 [])) (to (j + i))
+  unfolding entriesTo
+  entries-from j i [] h = absurd (not-suc-le-zero h)
+  entries-from j zero (g ∷ gs) h = rw (add-zero j)
+  entries-from j (suc i) (g ∷ gs) h = let e : j + 1 + i ≡ j + suc i = omega arith in rw (← e) (entries-from (j + 1) i gs (omega arith))
+
+  pub entries-at : (i : ℕ) (gs : List (List (List ℕ))) → i < length gs → getD (entriesTo to 0 gs) i [] ≡ entry (keyOf (getD (getD gs i []) 0 [])) (to i)
+  entries-at i gs h = entries-from 0 i gs h ∙ rw (zero-add i)
 
 pub length-fromZero : (es : List (List ℕ)) → length (fromZero es) ≡ length es
 unfolding fromZero
@@ -157,7 +163,7 @@ module _ (f g n : ℕ) (records : List ℕ) (fp : 1 ≤ f) (gp : 1 ≤ g) where
   rs = rowsOf 16 n records
 
   abbrev level : List (List ℕ)
-  level = fromZero (entriesFrom 8 (leafGroups f (rowsOf 16 n records)))
+  level = fromZero (entriesTo place 0 (leafGroups f (rowsOf 16 n records)))
 
   rows-n : length (rowsOf 16 n records) ≡ n
   rows-n = length-rowsOf 16 n records
@@ -174,24 +180,25 @@ module _ (f g n : ℕ) (records : List ℕ) (fp : 1 ≤ f) (gp : 1 ≤ g) where
   leaf-inside i h = pieces-none f fp n i h
 
   length-level : length level ≡ pieces n f
-  length-level = length-fromZero (entriesFrom 8 (leafGroups f rs)) ∙ length-entries 8 (leafGroups f rs) ∙ leaf-count
+  length-level = length-fromZero (entriesTo place 0 (leafGroups f rs)) ∙ length-entries place 0 (leafGroups f rs) ∙ leaf-count
 
-  level-at : (i : ℕ) → i < pieces n f → getD level i [] ≡ entry (leafKey f records i) (8 + i)
+  level-at : (i : ℕ) → i < pieces n f → getD level i [] ≡ entry (leafKey f records i) (place i)
   unfolding leafKey pick
   level-at i h =
       let ls : List (List (List ℕ)) = leafGroups f rs in
       let hl : i < length ls = rw leaf-count h in
-      let at : getD (entriesFrom 8 ls) i [] ≡ entry (keyOf (getD (getD ls i []) 0 [])) (8 + i) = entries-at 8 i ls hl in
+      let at : getD (entriesTo place 0 ls) i [] ≡ entry (keyOf (getD (getD ls i []) 0 [])) (place i) = entries-at place i ls hl in
       split i 1
       (λ a. let z : i ≡ 0 = omega arith in
-      let le : 0 < length (entriesFrom 8 ls) = rw (length-entries 8 ls) (omega arith) in
+      let le : 0 < length (entriesTo place 0 ls) = rw (length-entries place 0 ls) (omega arith) in
       let zl : 0 < length ls = omega arith in
-      rw (eq-eqb i 0 z, z) (fromZero-first (entriesFrom 8 ls) le ∙ rw (entries-at 8 0 ls zl, to-entry (keyOf (getD (getD ls 0 []) 0 [])) (8 + 0) (omega arith))))
+      let small : place 0 < 65536 = omega (arith, place-in 0 (omega arith)) in
+      rw (eq-eqb i 0 z, z) (fromZero-first (entriesTo place 0 ls) le ∙ rw (entries-at place 0 ls zl, to-entry (keyOf (getD (getD ls 0 []) 0 [])) (place 0) small)))
       (λ a. let fi : f * i < n = leaf-inside i h in
       let first : getD (take f (drop (f * i) rs)) 0 [] ≡ part (16 * (f * i)) 16 records =
       getD-take f (drop (f * i) rs) 0 [] fp ∙ getD-drop (f * i) rs 0 [] ∙ rw (add-zero (f * i)) (getD-rowsOf 16 n (f * i) records fi) in
       rw (ne-eqb i 0 (λ z. omega arith))
-      (fromZero-later (entriesFrom 8 ls) i a ∙ at ∙ rw (leaf-group i h, first, key-row 16 (16 * (f * i)) records (omega arith))))
+      (fromZero-later (entriesTo place 0 ls) i a ∙ at ∙ rw (leaf-group i h, first, key-row 16 (16 * (f * i)) records (omega arith))))
 
   pub base-count : length (baseGroups f g (rowsOf 16 n records)) ≡ pieces (pieces n f) g
   unfolding baseGroups
@@ -206,35 +213,35 @@ module _ (f g n : ℕ) (records : List ℕ) (fp : 1 ≤ f) (gp : 1 ≤ g) where
 
   -- a base page's entries
   pub base-group : (j m : ℕ) → j < pieces (pieces n f) g → m ≡ min g (pieces n f - g * j)
-      → getD (baseGroups f g (rowsOf 16 n records)) j [] ≡ entryRun f records 1 (g * j) (8 + g * j) m
+      → getD (baseGroups f g (rowsOf 16 n records)) j [] ≡ entryRun f records 1 (g * j) (place (g * j)) m
   base-group j m h e =
       let b : g * j < pieces n f = base-inside j h in
       let ld : length (drop (g * j) level) ≡ pieces n f - g * j = length-drop (g * j) level ∙ rw length-level in
       let lt : length (take g (drop (g * j) level)) ≡ m = length-take g (drop (g * j) level) ∙ rw ld (sym e) in
       base-take j b
-      ∙ ext-getD [] (take g (drop (g * j) level)) (entryRun f records 1 (g * j) (8 + g * j) m) (lt ∙ sym (length-run f records 1 (g * j) (8 + g * j) m))
+      ∙ ext-getD [] (take g (drop (g * j) level)) (entryRun f records 1 (g * j) (place (g * j)) m) (lt ∙ sym (length-run f records 1 (g * j) (place (g * j)) m))
       (λ i k. let im : i < m = omega arith in
       let one : g * j + 1 * i ≡ g * j + i = omega arith in
-      let eight : 8 + g * j + i ≡ 8 + (g * j + i) = omega arith in
       getD-take g (drop (g * j) level) i [] (omega arith)
       ∙ getD-drop (g * j) level i []
       ∙ level-at (g * j + i) (omega arith)
-      ∙ sym (run-at f records 1 (g * j) (8 + g * j) m i im ∙ rw (one, eight)))
+      ∙ sym (run-at f records 1 (g * j) (place (g * j)) m i im ∙ rw (one, place-run (g * j) i)))
 
   -- the root's entries
-  pub root-group : Bytes records → entriesFrom 1 (baseGroups f g (rowsOf 16 n records)) ≡ entryRun f records g 0 1 (pieces (pieces n f) g)
+  pub root-group : Bytes records → entriesTo basePlace 0 (baseGroups f g (rowsOf 16 n records)) ≡ entryRun f records g 0 firstBase (pieces (pieces n f) g)
+  unfolding basePlace
   root-group bytes =
       let bs : List (List (List ℕ)) = baseGroups f g rs in
       let nb : ℕ = pieces (pieces n f) g in
-      ext-getD [] (entriesFrom 1 bs) (entryRun f records g 0 1 nb) (length-entries 1 bs ∙ base-count ∙ sym (length-run f records g 0 1 nb))
-      (λ j k. let h : j < nb = omega (arith, length-entries 1 bs, base-count) in
-      let hb : j < length bs = omega (arith, length-entries 1 bs) in
+      ext-getD [] (entriesTo basePlace 0 bs) (entryRun f records g 0 firstBase nb) (length-entries basePlace 0 bs ∙ base-count ∙ sym (length-run f records g 0 firstBase nb))
+      (λ j k. let h : j < nb = omega (arith, length-entries basePlace 0 bs, base-count) in
+      let hb : j < length bs = omega (arith, length-entries basePlace 0 bs) in
       let b : g * j < pieces n f = base-inside j h in
-      let first : getD (take g (drop (g * j) level)) 0 [] ≡ entry (leafKey f records (g * j)) (8 + g * j) =
+      let first : getD (take g (drop (g * j) level)) 0 [] ≡ entry (leafKey f records (g * j)) (place (g * j)) =
       getD-take g (drop (g * j) level) 0 [] gp ∙ getD-drop (g * j) level 0 [] ∙ rw (add-zero (g * j)) (level-at (g * j) b) in
-      entries-at 1 j bs hb
-      ∙ rw (base-take j b, first, key-entry (leafKey f records (g * j)) (8 + g * j) (leaf-key-small f records (g * j) bytes))
-      (sym (run-at f records g 0 1 nb j h ∙ rw (zero-add (g * j)))))
+      entries-at basePlace j bs hb
+      ∙ rw (base-take j b, first, key-entry (leafKey f records (g * j)) (place (g * j)) (leaf-key-small f records (g * j) bytes))
+      (sym (run-at f records g 0 firstBase nb j h ∙ rw (zero-add (g * j)))))
 
 -- ---- images that are filled
 

@@ -14,13 +14,14 @@ use Rattle.field.specs.Bytes.{zeroes, Bytes}
 use Rattle.field.proofs.Test.{pick-true, pick-false, pick-either}
 use Rattle.field.proofs.Part.{split}
 use Rattle.field.proofs.Zero.{length-zeroes}
-use Rattle.page.specs.Page.{Kind, root, base, leaf, empty, rowsOf, joined, made}
+use Rattle.page.specs.Page.{Kind, root, base, leaf, empty, firstBase, lastBase, basePages, firstLeaf, leafPages, rowsOf, joined, made}
+use Rattle.page.specs.Places.{place, basePlace}
 use Rattle.page.specs.Pages.{page, putPage}
 use Rattle.page.specs.Each.{Each, nil, Long}
 use Rattle.page.proofs.Rows.{long-rowsOf, length-joined, joined-append, rowsOf-joined, getD-rowsOf}
 use Rattle.page.proofs.Made.{length-made}
 use Rattle.page.proofs.Pages.{page-putPage-same, page-putPage-other, pages-ext}
-use Rattle.tree.specs.Layout.{entriesFrom, fresh, filled, leafGroups, baseGroups, layout}
+use Rattle.tree.specs.Layout.{entriesTo, fresh, filled, leafGroups, baseGroups, layout}
 use Rattle.tree.specs.Pieces.{pieces, entryRun, Leaves, Buildable, nth, layoutPage}
 use Rattle.tree.proofs.Sound.{each-of}
 use Rattle.tree.proofs.Into.{each-drop}
@@ -30,8 +31,8 @@ use Rattle.tree.proofs.Groups.{pieces-some, leaf-count, leaf-group, lea
 -- ---- build's tests
 
 -- what the counts of leaves and base pages say of the records
-pub buildable : (f g : ℕ) (records : List ℕ) → 1 ≤ f → f ≤ 15 → 1 ≤ g → g ≤ 30 → length (leafGroups f (rowsOf 16 (length records / 16) records)) ≤ 56
-    → length (baseGroups f g (rowsOf 16 (length records / 16) records)) ≤ 7 → Buildable f g (length records)
+pub buildable : (f g : ℕ) (records : List ℕ) → 1 ≤ f → f ≤ 15 → 1 ≤ g → g ≤ 30 → length (leafGroups f (rowsOf 16 (length records / 16) records)) ≤ leafPages
+    → length (baseGroups f g (rowsOf 16 (length records / 16) records)) ≤ basePages → Buildable f g (length records)
 buildable f g records a b c d l m = record {
   leaf-least = a;
   leaf-most = b;
@@ -74,8 +75,8 @@ module _ (f g : ℕ) (records : List ℕ) (b : Buildable f g (length records)) w
 
   pub records-few : length records / 16 ≤ 840
   records-few =
-      split (f * 56) n
-      (λ a. absurd (let x : 56 < nl = pieces-some f (b .leaf-least) n 56 a in let y : ⊥ = omega (arith, b .leaves) in y))
+      split (f * leafPages) n
+      (λ a. absurd (let x : leafPages < nl = pieces-some f (b .leaf-least) n leafPages a in let y : ⊥ = omega (arith, b .leaves) in y))
       (λ a. omega (arith, b .leaf-most))
 
   -- ---- base pages
@@ -91,7 +92,7 @@ module _ (f g : ℕ) (records : List ℕ) (b : Buildable f g (length records)) w
     inside : j < pieces nl g
     inside = pieces-some g (b .base-least) nl j h
 
-    pub base-some : (r : List ℕ) → r ≡ made 98 0 (zeroes 8) (entryRun f records 1 (g * j) (8 + g * j) m) → r ≡ nth base (baseGroups f g (rowsOf 16 (length records / 16) records)) j
+    pub base-some : (r : List ℕ) → r ≡ made 98 0 (zeroes 8) (entryRun f records 1 (g * j) (place (g * j)) m) → r ≡ nth base (baseGroups f g (rowsOf 16 (length records / 16) records)) j
     base-some r e =
         let c : length (baseGroups f g rs) ≡ pieces nl g = base-count f g n records (b .leaf-least) (b .base-least) in
         e ∙ sym (nth-some base (baseGroups f g rs) j (rw c inside) ∙ (unfold fresh in ap (made 98 0 (zeroes 8)) (base-group f g n records (b .leaf-least) (b .base-least) j m inside em)))
@@ -114,32 +115,32 @@ module _ (f g : ℕ) (records : List ℕ) (b : Buildable f g (length records)) w
   }
 
   module _ (bytes : Bytes records) where
-    pub root-page : (p : ℕ) (r : List ℕ) → p ≡ 0 → r ≡ made 114 0 (zeroes 8) (entryRun f records g 0 1 (pieces (pieces (length records / 16) f) g))
+    pub root-page : (p : ℕ) (r : List ℕ) → p ≡ 0 → r ≡ made 114 0 (zeroes 8) (entryRun f records g 0 firstBase (pieces (pieces (length records / 16) f) g))
         → r ≡ layoutPage f g (rowsOf 16 (length records / 16) records) p
     unfolding layoutPage fresh
     root-page p r h e = e ∙ sym (pick-true _ _ _ (eq-eqb p 0 h) ∙ ap (made 114 0 (zeroes 8)) (root-group f g n records (b .leaf-least) (b .base-least) bytes))
 
   module _ (p : ℕ) (ne : p ≡ 0 → ⊥) where
-    pub base-page : (r : List ℕ) → p ≤ 7 → r ≡ nth base (baseGroups f g (rowsOf 16 (length records / 16) records)) (p - 1)
+    pub base-page : (r : List ℕ) → p ≤ lastBase → r ≡ nth base (baseGroups f g (rowsOf 16 (length records / 16) records)) (p - firstBase)
         → r ≡ layoutPage f g (rowsOf 16 (length records / 16) records) p
     unfolding layoutPage
-    base-page r h e = e ∙ sym (pick-false _ _ _ (ne-eqb p 0 ne) ∙ pick-true _ _ _ (le-leb p 7 h))
+    base-page r h e = e ∙ sym (pick-false _ _ _ (ne-eqb p 0 ne) ∙ pick-true _ _ _ (le-leb p lastBase h))
 
-    module _ (low : 7 < p) where
-      leaf-place : layoutPage f g (rowsOf 16 (length records / 16) records) p ≡ nth leaf (leafGroups f (rowsOf 16 (length records / 16) records)) (p - 8)
+    module _ (low : lastBase < p) where
+      leaf-place : layoutPage f g (rowsOf 16 (length records / 16) records) p ≡ nth leaf (leafGroups f (rowsOf 16 (length records / 16) records)) (p - firstLeaf)
       unfolding layoutPage
-      leaf-place = pick-false _ _ _ (ne-eqb p 0 ne) ∙ pick-false _ _ _ (lt-leb p 7 low)
+      leaf-place = pick-false _ _ _ (ne-eqb p 0 ne) ∙ pick-false _ _ _ (lt-leb p lastBase low)
 
       leaf-number : length (leafGroups f rs) ≡ nl
       leaf-number = leaf-count f g n records (b .leaf-least) (b .base-least)
 
-      pub leaf-page-is : (r : List ℕ) → p - 8 < pieces (length records / 16) f
-          → r ≡ fresh leaf (take f (drop (f * (p - 8)) (rowsOf 16 (length records / 16) records))) → r ≡ layoutPage f g (rowsOf 16 (length records / 16) records) p
+      pub leaf-page-is : (r : List ℕ) → p - firstLeaf < pieces (length records / 16) f
+          → r ≡ fresh leaf (take f (drop (f * (p - firstLeaf)) (rowsOf 16 (length records / 16) records))) → r ≡ layoutPage f g (rowsOf 16 (length records / 16) records) p
       leaf-page-is r h e =
-          e ∙ sym (leaf-place ∙ nth-some leaf (leafGroups f rs) (p - 8) (rw leaf-number h) ∙ ap (fresh leaf) (leaf-group f g n records (b .leaf-least) (b .base-least) (p - 8) h))
+          e ∙ sym (leaf-place ∙ nth-some leaf (leafGroups f rs) (p - firstLeaf) (rw leaf-number h) ∙ ap (fresh leaf) (leaf-group f g n records (b .leaf-least) (b .base-least) (p - firstLeaf) h))
 
-      pub empty-page-is : (r : List ℕ) → pieces (length records / 16) f ≤ p - 8 → r ≡ made 101 0 (zeroes 8) [] → r ≡ layoutPage f g (rowsOf 16 (length records / 16) records) p
-      empty-page-is r h e = e ∙ blank-is ∙ sym (leaf-place ∙ nth-none leaf (leafGroups f rs) (p - 8) (rw leaf-number h))
+      pub empty-page-is : (r : List ℕ) → pieces (length records / 16) f ≤ p - firstLeaf → r ≡ made 101 0 (zeroes 8) [] → r ≡ layoutPage f g (rowsOf 16 (length records / 16) records) p
+      empty-page-is r h e = e ∙ blank-is ∙ sym (leaf-place ∙ nth-none leaf (leafGroups f rs) (p - firstLeaf) (rw leaf-number h))
 
   pub leaf-begins : (i : ℕ) → i < pieces (length records / 16) f → f * i < length records / 16
   leaf-begins i h = leaf-inside f g n records (b .leaf-least) (b .base-least) i h
@@ -184,10 +185,10 @@ module _ (f g : ℕ) (records : List ℕ) (b : Buildable f g (length records)) (
   abbrev ls : List (List (List ℕ))
   ls = leafGroups f (rowsOf 16 (length records / 16) records)
 
-  bases : length bs ≤ 7
+  bases : length bs ≤ basePages
   bases = rw (base-count f g n′ records (b .leaf-least) (b .base-least)) (b .bases)
 
-  leaves : length ls ≤ 56
+  leaves : length ls ≤ leafPages
   leaves = rw (leaf-count f g n′ records (b .leaf-least) (b .base-least)) (b .leaves)
 
   empty-long : length (fresh empty []) ≡ 256
@@ -200,8 +201,8 @@ module _ (f g : ℕ) (records : List ℕ) (b : Buildable f g (length records)) (
       let h : j < pieces (pieces n′ f) g = omega arith in
       let m : ℕ = min g (pieces n′ f - g * j) in
       rw (nth-some base bs j a, base-group f g n′ records (b .leaf-least) (b .base-least) j m h refl)
-      (fresh-long base 8 (entryRun f records 1 (g * j) (8 + g * j) m) (long-run f records 1 (g * j) (8 + g * j) m)
-      (rw (length-run f records 1 (g * j) (8 + g * j) m) (omega (arith, b .base-most)))))
+      (fresh-long base 8 (entryRun f records 1 (g * j) (place (g * j)) m) (long-run f records 1 (g * j) (place (g * j)) m)
+      (rw (length-run f records 1 (g * j) (place (g * j)) m) (omega (arith, b .base-most)))))
       (λ a. rw (nth-none base bs j a) empty-long)
 
   leaf-long : (i : ℕ) → length (nth leaf ls i) ≡ 256
@@ -216,46 +217,46 @@ module _ (f g : ℕ) (records : List ℕ) (b : Buildable f g (length records)) (
 
   -- all pages, as a list
   sheets : List (List ℕ)
-  sheets = fresh root (entriesFrom 1 bs) ∷ ((map (fresh base) bs ++ replicate (7 - length bs) (fresh empty [])) ++ (map (fresh leaf) ls ++ replicate (56 - length ls) (fresh empty [])))
+  sheets = fresh root (entriesTo basePlace 0 bs) ∷ ((map (fresh base) bs ++ replicate (basePages - length bs) (fresh empty [])) ++ (map (fresh leaf) ls ++ replicate (leafPages - length ls) (fresh empty [])))
 
   layout-joined : layout f g rows′ ≡ joined sheets
   unfolding layout filled sheets
   layout-joined =
       let ab : List (List ℕ) = map (fresh base) bs in
-      let ae : List (List ℕ) = replicate (7 - length bs) (fresh empty []) in
+      let ae : List (List ℕ) = replicate (basePages - length bs) (fresh empty []) in
       let lb : List (List ℕ) = map (fresh leaf) ls in
-      let le : List (List ℕ) = replicate (56 - length ls) (fresh empty []) in
+      let le : List (List ℕ) = replicate (leafPages - length ls) (fresh empty []) in
       let q : joined ((ab ++ ae) ++ (lb ++ le)) ≡ (joined ab ++ joined ae) ++ (joined lb ++ joined le) =
       joined-append (ab ++ ae) (lb ++ le) ∙ ap₂ (λ (x y : List ℕ). x ++ y) (joined-append ab ae) (joined-append lb le) in
-      sym (joined-cons (fresh root (entriesFrom 1 bs)) ((ab ++ ae) ++ (lb ++ le)) ∙ ap (λ (x : List ℕ). fresh root (entriesFrom 1 bs) ++ x) q)
+      sym (joined-cons (fresh root (entriesTo basePlace 0 bs)) ((ab ++ ae) ++ (lb ++ le)) ∙ ap (λ (x : List ℕ). fresh root (entriesTo basePlace 0 bs) ++ x) q)
 
   length-sheets : length sheets ≡ 64
   unfolding sheets
   length-sheets =
-      let la = fill-length base bs (7 - length bs) in
-      let ll = fill-length leaf ls (56 - length ls) in
-      let lt = length-append (map (fresh base) bs ++ replicate (7 - length bs) (fresh empty [])) (map (fresh leaf) ls ++ replicate (56 - length ls) (fresh empty [])) in
+      let la = fill-length base bs (basePages - length bs) in
+      let ll = fill-length leaf ls (leafPages - length ls) in
+      let lt = length-append (map (fresh base) bs ++ replicate (basePages - length bs) (fresh empty [])) (map (fresh leaf) ls ++ replicate (leafPages - length ls) (fresh empty [])) in
       omega (arith, bases, leaves)
 
   sheet-at : (q : ℕ) → q < 64 → getD sheets q [] ≡ layoutPage f g rows′ q
   unfolding sheets layoutPage
   sheet-at zero h = sym (pick-true _ _ _ (eq-eqb 0 0 refl))
   sheet-at (suc i) h =
-      let e : length bs + (7 - length bs) ≡ 7 = omega (arith, bases) in
-      let la : length (map (fresh base) bs ++ replicate (7 - length bs) (fresh empty [])) ≡ 7 = fill-length base bs (7 - length bs) ∙ e in
+      let e : length bs + (basePages - length bs) ≡ basePages = omega (arith, bases) in
+      let la : length (map (fresh base) bs ++ replicate (basePages - length bs) (fresh empty [])) ≡ basePages = fill-length base bs (basePages - length bs) ∙ e in
       let z : eqb (suc i) 0 ≡ false = ne-eqb (suc i) 0 (λ y. omega arith) in
-      split i 7
-      (λ a. let k : suc i - 1 ≡ i = omega arith in
-      List·getD-append (map (fresh base) bs ++ replicate (7 - length bs) (fresh empty [])) (map (fresh leaf) ls ++ replicate (56 - length ls) (fresh empty [])) [] i (omega arith)
-      ∙ fill-at base bs (7 - length bs) i (omega (arith, bases))
-      ∙ sym (pick-false _ _ _ z ∙ pick-true _ _ _ (le-leb (suc i) 7 (omega arith)) ∙ ap (nth base bs) k))
-      (λ a. let d : ℕ = i - 7 in
-      let k : suc i - 8 ≡ d = omega arith in
-      let e : length (map (fresh base) bs ++ replicate (7 - length bs) (fresh empty [])) + d ≡ i = omega arith in
-      ap (λ (x : ℕ). getD ((map (fresh base) bs ++ replicate (7 - length bs) (fresh empty [])) ++ (map (fresh leaf) ls ++ replicate (56 - length ls) (fresh empty []))) x []) (sym e)
-      ∙ getD-append-add (map (fresh base) bs ++ replicate (7 - length bs) (fresh empty [])) (map (fresh leaf) ls ++ replicate (56 - length ls) (fresh empty [])) d []
-      ∙ fill-at leaf ls (56 - length ls) d (omega (arith, leaves))
-      ∙ sym (pick-false _ _ _ z ∙ pick-false _ _ _ (lt-leb (suc i) 7 (omega arith)) ∙ ap (nth leaf ls) k))
+      split i basePages
+      (λ a. let k : suc i - firstBase ≡ i = omega arith in
+      List·getD-append (map (fresh base) bs ++ replicate (basePages - length bs) (fresh empty [])) (map (fresh leaf) ls ++ replicate (leafPages - length ls) (fresh empty [])) [] i (omega arith)
+      ∙ fill-at base bs (basePages - length bs) i (omega (arith, bases))
+      ∙ sym (pick-false _ _ _ z ∙ pick-true _ _ _ (le-leb (suc i) lastBase (omega arith)) ∙ ap (nth base bs) k))
+      (λ a. let d : ℕ = i - basePages in
+      let k : suc i - firstLeaf ≡ d = omega arith in
+      let e : length (map (fresh base) bs ++ replicate (basePages - length bs) (fresh empty [])) + d ≡ i = omega arith in
+      ap (λ (x : ℕ). getD ((map (fresh base) bs ++ replicate (basePages - length bs) (fresh empty [])) ++ (map (fresh leaf) ls ++ replicate (leafPages - length ls) (fresh empty []))) x []) (sym e)
+      ∙ getD-append-add (map (fresh base) bs ++ replicate (basePages - length bs) (fresh empty [])) (map (fresh leaf) ls ++ replicate (leafPages - length ls) (fresh empty [])) d []
+      ∙ fill-at leaf ls (leafPages - length ls) d (omega (arith, leaves))
+      ∙ sym (pick-false _ _ _ z ∙ pick-false _ _ _ (lt-leb (suc i) lastBase (omega arith)) ∙ ap (nth leaf ls) k))
 
   pub page-long : (q : ℕ) → length (layoutPage f g (rowsOf 16 (length records / 16) records) q) ≡ 256
   unfolding layoutPage
@@ -263,10 +264,10 @@ module _ (f g : ℕ) (records : List ℕ) (b : Buildable f g (length records)) (
       split q 1
       (λ a. let z : q ≡ 0 = omega arith in
       ap length (pick-true _ _ _ (eq-eqb q 0 z) ∙ ap (fresh root) (root-group f g n′ records (b .leaf-least) (b .base-least) bytes))
-      ∙ fresh-long root 8 (entryRun f records g 0 1 (pieces (pieces n′ f) g)) (long-run f records g 0 1 (pieces (pieces n′ f) g))
-      (rw (length-run f records g 0 1 (pieces (pieces n′ f) g)) (omega (arith, b .bases))))
+      ∙ fresh-long root 8 (entryRun f records g 0 firstBase (pieces (pieces n′ f) g)) (long-run f records g 0 firstBase (pieces (pieces n′ f) g))
+      (rw (length-run f records g 0 firstBase (pieces (pieces n′ f) g)) (omega (arith, b .bases))))
       (λ a. ap length (pick-false _ _ _ (ne-eqb q 0 (λ z. omega arith)))
-      ∙ either-long (nth base bs (q - 1)) (nth leaf ls (q - 8)) (leb q 7) (base-long (q - 1)) (leaf-long (q - 8)))
+      ∙ either-long (nth base bs (q - firstBase)) (nth leaf ls (q - firstLeaf)) (leb q lastBase) (base-long (q - firstBase)) (leaf-long (q - firstLeaf)))
 
   sheets-long : Each (Long 256) sheets
   sheets-long = each-of sheets (λ i h. rw (sheet-at i (omega (arith, length-sheets))) (page-long i))

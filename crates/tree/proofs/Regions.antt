@@ -10,7 +10,8 @@ use borrow.Author.Tests.{eq-eqb, ne-eqb, le-leb, lt-leb}
 use Rattle.field.specs.Test.{pick}
 use Rattle.field.proofs.Test.{both-1, both-2}
 use Rattle.field.proofs.Part.{split}
-use Rattle.page.specs.Page.{Kind, root, base, leaf, empty, rowsOf, ascend, pointing, letter, count, rows, entries, shaped, isRoot, isBase, isLeaf, isEmpty, formed}
+use Rattle.page.specs.Page.{Kind, root, base, leaf, empty, rowsOf, ascend, pointing, letter, count, rows, entries, shaped}
+use Rattle.page.specs.Page.{lastBase, toBases, toLeaves, isRoot, isBase, isLeaf, isEmpty, formed}
 use Rattle.page.proofs.Made.{Shaped, shaped-facts}
 
 -- a test is one or the other
@@ -23,20 +24,20 @@ decide false f g = g refl
 pub data Formed (p : ℕ) (pg : List ℕ) : Type 0 where
   as-root : p ≡ 0 → isRoot pg ≡ true → Formed p pg
   as-empty : 0 < p → isEmpty pg ≡ true → Formed p pg
-  as-base : 0 < p → p ≤ 7 → isBase pg ≡ true → Formed p pg
-  as-leaf : 7 < p → isLeaf pg ≡ true → Formed p pg
+  as-base : 0 < p → p ≤ lastBase → isBase pg ≡ true → Formed p pg
+  as-leaf : lastBase < p → isLeaf pg ≡ true → Formed p pg
 
 pub formed-kind : (p : ℕ) (pg : List ℕ) → formed p pg ≡ true → Formed p pg
 unfolding formed pick
 formed-kind p pg e =
     split p 1
     (λ h. let z : p ≡ 0 = omega arith in as-root z (rw (eq-eqb p 0 z) at e))
-    (λ h. let e1 : pick (isEmpty pg) true (pick (leb p 7) (isBase pg) (isLeaf pg)) ≡ true = rw (ne-eqb p 0 (λ z. omega arith)) at e in
+    (λ h. let e1 : pick (isEmpty pg) true (pick (leb p lastBase) (isBase pg) (isLeaf pg)) ≡ true = rw (ne-eqb p 0 (λ z. omega arith)) at e in
     decide (isEmpty pg) (λ t. as-empty h t)
-    (λ t. let e2 : pick (leb p 7) (isBase pg) (isLeaf pg) ≡ true = rw t at e1 in
-    split 7 p
-    (λ k. as-leaf k (rw (lt-leb p 7 k) at e2))
-    (λ k. as-base h k (rw (le-leb p 7 k) at e2))))
+    (λ t. let e2 : pick (leb p lastBase) (isBase pg) (isLeaf pg) ≡ true = rw t at e1 in
+    split lastBase p
+    (λ k. as-leaf k (rw (lt-leb p lastBase k) at e2))
+    (λ k. as-base h k (rw (le-leb p lastBase k) at e2))))
 
 -- ---- the rows of a page
 
@@ -67,7 +68,7 @@ ordered-empty sz a b most pg e =
       order = rw (rows-none sz pg z) (unfold ascend in refl);
     }
 
-pub entries-ordered : (p : ℕ) (pg : List ℕ) → formed p pg ≡ true → p ≤ 7 → Ordered 8 101 110 30 pg
+pub entries-ordered : (p : ℕ) (pg : List ℕ) → formed p pg ≡ true → p ≤ lastBase → Ordered 8 101 110 30 pg
 entries-ordered p pg e h = elim (formed-kind p pg e) [
   | as-root z t ↦ unfold isRoot in ordered-of root pg (both-1 _ _ t)
   | as-empty z t ↦ ordered-empty 8 101 110 30 pg t
@@ -75,7 +76,7 @@ entries-ordered p pg e h = elim (formed-kind p pg e) [
   | as-leaf k t ↦ absurd (let x : ⊥ = omega arith in x)
 ]
 
-pub records-ordered : (p : ℕ) (pg : List ℕ) → formed p pg ≡ true → 7 < p → Ordered 16 114 99 15 pg
+pub records-ordered : (p : ℕ) (pg : List ℕ) → formed p pg ≡ true → lastBase < p → Ordered 16 114 99 15 pg
 records-ordered p pg e h = elim (formed-kind p pg e) [
   | as-root z t ↦ absurd (let x : ⊥ = omega arith in x)
   | as-empty z t ↦ ordered-empty 16 114 99 15 pg t
@@ -85,11 +86,11 @@ records-ordered p pg e h = elim (formed-kind p pg e) [
 
 -- ---- where the entries point
 
-pub root-points : (pg : List ℕ) → formed 0 pg ≡ true → pointing 1 7 (entries pg) ≡ true
+pub root-points : (pg : List ℕ) → formed 0 pg ≡ true → toBases (entries pg) ≡ true
 unfolding formed pick isRoot
 root-points pg e = both-2 _ _ e
 
-pub base-points : (p : ℕ) (pg : List ℕ) → formed p pg ≡ true → 0 < p → p ≤ 7 → pointing 8 63 (entries pg) ≡ true
+pub base-points : (p : ℕ) (pg : List ℕ) → formed p pg ≡ true → 0 < p → p ≤ lastBase → toLeaves (entries pg) ≡ true
 base-points p pg e g h = elim (formed-kind p pg e) [
   | as-root z t ↦ absurd (let x : ⊥ = omega arith in x)
   | as-empty z t ↦ rw (rows-none 8 pg (empty-none pg t)) (unfold pointing in refl)

@@ -8,7 +8,8 @@ use mathlib.Core.List.{List, [], _∷_, _++_}
 use lib.ListN.{length, take, drop, getD}
 use borrow.Author.Tests.{leb-true}
 use Rattle.field.proofs.Test.{both-1, both-2}
-use Rattle.page.specs.Page.{root, base, leaf, rowsOf, toPage, pointing, count, rows, entries, isBase, isLeaf, isEmpty, formed}
+use Rattle.page.specs.Page.{root, base, leaf, rowsOf, toPage, pointing, count, rows, entries, firstBase, lastBase, firstLeaf, lastLeaf, isBase, isLeaf, isEmpty, formed}
+use Rattle.page.specs.Places.{Basic, Leafy}
 use Rattle.page.specs.Pages.{page, pages}
 use Rattle.page.specs.Each.{Each, nil, cons}
 use Rattle.page.proofs.Rows.{each-append, each-at}
@@ -35,7 +36,7 @@ module _ (w : List ℕ) (f : InForm w) where
 
   -- ---- a base page that is lent to a call over its entries
 
-  module _ (q m : ℕ) (lo : 1 ≤ q) (hi : q ≤ 7) (e : m ≡ count (page q w)) where
+  module _ (q m : ℕ) (lo : firstBase ≤ q) (hi : q ≤ lastBase) (e : m ≡ count (page q w)) where
     base-formed : formed q (page q w) ≡ true
     base-formed = formed-page q w (f .forms) (omega arith)
 
@@ -47,7 +48,7 @@ module _ (w : List ℕ) (f : InForm w) where
     base-asks =
         let o : Ordered 8 101 110 30 (page q w) = entries-ordered q (page q w) base-formed hi in
         rw (lent-page q w)
-        (omega (arith, o .whole, o .room), pointing-wider 8 63 0 63 _ (omega arith) (omega arith) (rw e (unfold rows in base-points q (page q w) base-formed lo hi)))
+        (omega (arith, o .whole, o .room), pointing-wider firstLeaf lastLeaf 0 63 _ (omega arith) (omega arith) (rw e (unfold rows in base-points q (page q w) base-formed lo hi)))
 
 -- the same of a base page known to have leaf pages below
 pub over-asks : (w : List ℕ) (q m : ℕ) → length w ≡ 16384 → Over w q → m ≡ count (page q w)
@@ -95,7 +96,7 @@ full-count q pg e h t = elim (formed-kind q pg e) [
 ]
 
 module _ (w : List ℕ) (f : InForm w) where
-  spot-base : (q : ℕ) → 1 ≤ q → q ≤ 7 → isEmpty (page q w) ≡ false → Spot 8 w q
+  spot-base : (q : ℕ) → firstBase ≤ q → q ≤ lastBase → isEmpty (page q w) ≡ false → Spot 8 w q
   spot-base q lo hi t =
       let g : formed q (page q w) ≡ true = formed-page q w (f .forms) (omega arith) in
       let o : Ordered 8 101 110 30 (page q w) = entries-ordered q (page q w) g hi in
@@ -107,7 +108,7 @@ module _ (w : List ℕ) (f : InForm w) where
         order = record { one = 101; two = 110; order = o .order };
       }
 
-  spot-leaf : (q : ℕ) → 8 ≤ q → q ≤ 63 → isEmpty (page q w) ≡ false → Spot 16 w q
+  spot-leaf : (q : ℕ) → firstLeaf ≤ q → q ≤ lastLeaf → isEmpty (page q w) ≡ false → Spot 16 w q
   spot-leaf q lo hi t =
       let g : formed q (page q w) ≡ true = formed-page q w (f .forms) (omega arith) in
       let o : Ordered 16 114 99 15 (page q w) = records-ordered q (page q w) g lo in
@@ -119,11 +120,11 @@ module _ (w : List ℕ) (f : InForm w) where
         order = record { one = 114; two = 99; order = o .order };
       }
 
-  spots : (es : List (List ℕ)) → Each (λ e. (8 ≤ toPage e) × (toPage e ≤ 63)) es → Each (Full w) es → Each (Below 16 w) es
+  spots : (es : List (List ℕ)) → Each (λ e. Leafy (toPage e)) es → Each (Full w) es → Each (Below 16 w) es
   spots [] nil nil = nil
   spots (e ∷ es) (cons h p) (cons t q) = cons (spot-leaf (toPage e) (h .0) (h .1) t) (spots es p q)
 
-  overs : (es : List (List ℕ)) → Each (λ e. (1 ≤ toPage e) × (toPage e ≤ 7)) es → Each (Full w) es → Each (Full w) (below 8 (pages w) es) → Each (Above w) es
+  overs : (es : List (List ℕ)) → Each (λ e. Basic (toPage e)) es → Each (Full w) es → Each (Full w) (below 8 (pages w) es) → Each (Above w) es
   unfolding below under
   overs [] nil nil r = nil
   overs (e ∷ es) (cons h p) (cons t q) r =
@@ -133,19 +134,19 @@ module _ (w : List ℕ) (f : InForm w) where
       cons
       (record {
         base = spot-base (toPage e) (h .0) (h .1) t;
-        leaves = spots (rows 8 (page (toPage e) w)) (pointing-each 8 63 (rows 8 (page (toPage e) w)) (base-points (toPage e) (page (toPage e) w) fm (h .0) (h .1))) r1;
+        leaves = spots (rows 8 (page (toPage e) w)) (pointing-each firstLeaf lastLeaf (rows 8 (page (toPage e) w)) (base-points (toPage e) (page (toPage e) w) fm (h .0) (h .1))) r1;
       })
       (overs es p q (each-right (rows 8 (getD (pages w) (toPage e) [])) (below 8 (pages w) es) r))
 
   -- all entries of base pages point to leaf pages
-  level-points : (es : List (List ℕ)) → Each (λ e. (1 ≤ toPage e) × (toPage e ≤ 7)) es → Each (λ e. (8 ≤ toPage e) × (toPage e ≤ 63)) (below 8 (pages w) es)
+  level-points : (es : List (List ℕ)) → Each (λ e. Basic (toPage e)) es → Each (λ e. Leafy (toPage e)) (below 8 (pages w) es)
   unfolding below under
   level-points [] nil = nil
   level-points (e ∷ es) (cons h p) =
       let g : toPage e < 64 = omega (arith, h .1) in
       let fm : formed (toPage e) (page (toPage e) w) ≡ true = formed-page (toPage e) w (f .forms) g in
       rw (getD-pages (toPage e) w g)
-      (each-append (pointing-each 8 63 (rows 8 (page (toPage e) w)) (base-points (toPage e) (page (toPage e) w) fm (h .0) (h .1))) (level-points es p))
+      (each-append (pointing-each firstLeaf lastLeaf (rows 8 (page (toPage e) w)) (base-points (toPage e) (page (toPage e) w) fm (h .0) (h .1))) (level-points es p))
 
   -- the entries of root and base pages, where each page is pointed to rightly
   pub all-over : pointedOnce (rootEntries (pages w) ++ baseEntries (pages w)) 1 (drop 1 (pages w)) ≡ true → Each (Above w) (rows 8 (page 0 w))
@@ -153,8 +154,8 @@ module _ (w : List ℕ) (f : InForm w) where
   all-over e =
       let es : List (List ℕ) = rootEntries (pages w) in
       let level : List (List ℕ) = below 8 (pages w) es in
-      let rp : Each (λ x. (1 ≤ toPage x) × (toPage x ≤ 7)) es = rw (root-entries w) (pointing-each 1 7 (rows 8 (page 0 w)) (root-points (page 0 w) (root-formed w f))) in
-      let lp : Each (λ x. (8 ≤ toPage x) × (toPage x ≤ 63)) level = level-points es rp in
+      let rp : Each (λ x. Basic (toPage x)) es = rw (root-entries w) (pointing-each firstBase lastBase (rows 8 (page 0 w)) (root-points (page 0 w) (root-formed w f))) in
+      let lp : Each (λ x. Leafy (toPage x)) level = level-points es rp in
       let both-in : Each (λ x. (1 ≤ toPage x) × (toPage x < 64)) (es ++ level) =
       each-append (each-map (λ x h. (h .0, omega (arith, h .1))) rp) (each-map (λ x h. (omega (arith, h .0), omega (arith, h .1))) lp) in
       let full : Each (Full w) (es ++ level) = each-of (es ++ level) (λ i h. let g = each-at i both-in h in once-full (es ++ level) w i e h (g .0) (g .1)) in

@@ -4,7 +4,8 @@ use Prim.Native.Nat.{ℕ, zero, suc, _+_, _-_}
 use mathlib.Core.List.{List, [], _∷_, _++_, map}
 use lib.ListN.{length, take, drop, getD, replicate}
 use Rattle.field.specs.Bytes.{zeroes}
-use Rattle.page.specs.Page.{Kind, root, base, leaf, empty, joined, keyOf, toPage, entry, made}
+use Rattle.page.specs.Page.{Kind, root, base, leaf, empty, basePages, leafPages, joined, keyOf, toPage, entry, made}
+use Rattle.page.specs.Places.{place, basePlace}
 
 -- rows in groups of k, the last perhaps smaller; the fuel is no less than their number
 unfoldable pub groups : (fuel k : ℕ) → List (List ℕ) → List (List (List ℕ))
@@ -12,10 +13,10 @@ groups zero k rs = []
 groups (suc n) k [] = []
 groups (suc n) k (r ∷ rs) = take k (r ∷ rs) ∷ groups n k (drop k (r ∷ rs))
 
--- an entry for each group, the first to page p
-unfoldable pub entriesFrom : (p : ℕ) → List (List (List ℕ)) → List (List ℕ)
-entriesFrom p [] = []
-entriesFrom p (g ∷ gs) = entry (keyOf (getD g 0 [])) p ∷ entriesFrom (p + 1) gs
+-- an entry for each group, the first being group i: group i's to page `to i`
+unfoldable pub entriesTo : (to : ℕ → ℕ) (i : ℕ) → List (List (List ℕ)) → List (List ℕ)
+entriesTo to i [] = []
+entriesTo to i (g ∷ gs) = entry (keyOf (getD g 0 [])) (to i) ∷ entriesTo to (i + 1) gs
 
 -- the leftmost entry of all has key 0
 unfoldable pub fromZero : List (List ℕ) → List (List ℕ)
@@ -35,11 +36,11 @@ unfoldable pub leafGroups : (f : ℕ) → List (List ℕ) → List (List (List �
 leafGroups f rs = groups (length rs) f rs
 
 unfoldable pub baseGroups : (f g : ℕ) → List (List ℕ) → List (List (List ℕ))
-baseGroups f g rs = let ls : List (List (List ℕ)) = leafGroups f rs in groups (length ls) g (fromZero (entriesFrom 8 ls))
+baseGroups f g rs = let ls : List (List (List ℕ)) = leafGroups f rs in groups (length ls) g (fromZero (entriesTo place 0 ls))
 
--- the 64 pages: root, 7 base pages, 56 leaf pages
+-- the 64 pages: root, base pages, leaf pages
 unfoldable pub layout : (f g : ℕ) → List (List ℕ) → List ℕ
 layout f g rs =
     let ls : List (List (List ℕ)) = leafGroups f rs in
     let bs : List (List (List ℕ)) = baseGroups f g rs in
-    fresh root (entriesFrom 1 bs) ++ (filled 7 base bs ++ filled 56 leaf ls)
+    fresh root (entriesTo basePlace 0 bs) ++ (filled basePages base bs ++ filled leafPages leaf ls)

@@ -7,8 +7,9 @@ use lib.ListN.{length, take, drop, getD}
 use lib.Dec.{eqb, leb, ltb}
 use Rattle.field.specs.Test.{pick}
 use Rattle.field.specs.Bytes.{le4}
-use Rattle.page.specs.Page.{Kind, root, base, leaf, empty, rowsOf, entry}
-use Rattle.tree.specs.Layout.{fresh, leafGroups, baseGroups, entriesFrom}
+use Rattle.page.specs.Page.{Kind, root, base, leaf, empty, firstBase, lastBase, basePages, firstLeaf, leafPages, rowsOf, entry}
+use Rattle.page.specs.Places.{basePlace}
+use Rattle.tree.specs.Layout.{fresh, leafGroups, baseGroups, entriesTo}
 
 -- how many groups of k there are of n
 unfoldable pub pieces : (n k : ℕ) → ℕ
@@ -27,14 +28,14 @@ entryRun f records step i p (suc n) = entry (leafKey f records i) p ∷ entryRun
 pub record Leaves (bytes f step i n : ℕ) : Type 0 where
   pub begin : (j : ℕ) → j < n → 16 * (f * (i + step * j)) + 16 ≤ bytes
 
--- what build tests of the fills and of so many bytes of records: at most 56 leaves and 7 base pages
+-- what build tests of the fills and of so many bytes of records: there are enough leaf pages and base pages
 pub record Buildable (f g bytes : ℕ) : Type 0 where
   pub leaf-least : 1 ≤ f
   pub leaf-most : f ≤ 15
   pub base-least : 1 ≤ g
   pub base-most : g ≤ 30
-  pub leaves : pieces (bytes / 16) f ≤ 56
-  pub bases : pieces (pieces (bytes / 16) f) g ≤ 7
+  pub leaves : pieces (bytes / 16) f ≤ leafPages
+  pub bases : pieces (pieces (bytes / 16) f) g ≤ basePages
 
 -- group i, or an empty page where there is none
 unfoldable pub nth : (k : Kind) (gs : List (List (List ℕ))) (i : ℕ) → List ℕ
@@ -43,5 +44,5 @@ nth k gs i = pick (ltb i (length gs)) (fresh k (getD gs i [])) (fresh empty [])
 -- page p of the layout
 unfoldable pub layoutPage : (f g : ℕ) (rs : List (List ℕ)) (p : ℕ) → List ℕ
 layoutPage f g rs p =
-    pick (eqb p 0) (fresh root (entriesFrom 1 (baseGroups f g rs)))
-    (pick (leb p 7) (nth base (baseGroups f g rs) (p - 1)) (nth leaf (leafGroups f rs) (p - 8)))
+    pick (eqb p 0) (fresh root (entriesTo basePlace 0 (baseGroups f g rs)))
+    (pick (leb p lastBase) (nth base (baseGroups f g rs) (p - firstBase)) (nth leaf (leafGroups f rs) (p - firstLeaf)))

@@ -5,10 +5,11 @@ ghost use mathlib.Core.List.{[]};
 ghost use Prim.Native.Nat.{_+_, _-_, _*_, _/_, _%_, _≤_, _<_, min};
 ghost use lib.ListN.{length, take, drop};
 ghost use Rattle.field.specs.Bytes.{zeroes};
-ghost use Rattle.page.specs.Page.{base, leaf, rowsOf, ascendRecords, made};
+ghost use Rattle.page.specs.Page.{base, leaf, basePages, rowsOf, ascendRecords, made};
 ghost use Rattle.tree.specs.Layout.{fresh, leafGroups, baseGroups, layout};
 ghost use Rattle.tree.specs.Pieces.{pieces, leafKey, entryRun, Leaves, Buildable, nth, layoutPage};
 use field::PageNo;
+use page::bounds;
 use page::form;
 use page::image;
 
@@ -105,7 +106,7 @@ fn leaf_image(records: &[u8], f: usize, i: usize) -> [u8; 256]
 
 // Base page j's page: the entries to its leaves, g in each base page, of so many leaves; empty where there are none.
 fn base_image(records: &[u8], f: usize, g: usize, leaves: usize, j: usize) -> [u8; 256]
-    requires { ⌜ Buildable f g (length (now records)) × (leaves ≡ pieces (length (now records) / 16) f) × (j < 7) ⌝ }
+    requires { ⌜ Buildable f g (length (now records)) × (leaves ≡ pieces (length (now records) / 16) f) × (j < basePages) ⌝ }
     ensures { λ r. ⌜ r ≡ nth base (baseGroups f g (rowsOf 16 (length (now (records .entry)) / 16) (now (records .entry)))) j ⌝ }
 {
     let first = g * j;
@@ -113,7 +114,7 @@ fn base_image(records: &[u8], f: usize, g: usize, leaves: usize, j: usize) -> [u
         return image::blank(b'e');
     }
     let n = least(g, leaves - first);
-    entries_image(b'b', records, f, 1, first, PageNo(8 + first as u16), n)
+    entries_image(b'b', records, f, 1, first, bounds::place(first as u16), n)
 }
 
 // Page p of the layout.
@@ -124,13 +125,14 @@ fn image_at(records: &[u8], f: usize, g: usize, p: usize) -> [u8; 256]
     let leaves = pieces(records.len() / 16, f);
     if p == 0 {
         let bases = pieces(leaves, g);
-        return entries_image(b'r', records, f, g, 0, PageNo(1), bases);
+        return entries_image(b'r', records, f, g, 0, PageNo(bounds::FIRST_BASE), bases);
     }
-    if p <= 7 {
-        return base_image(records, f, g, leaves, p - 1);
+    if p <= bounds::LAST_BASE as usize {
+        return base_image(records, f, g, leaves, p - bounds::FIRST_BASE as usize);
     }
-    if p - 8 < leaves {
-        return leaf_image(records, f, p - 8);
+    let i = p - bounds::FIRST_LEAF as usize;
+    if i < leaves {
+        return leaf_image(records, f, i);
     }
     image::blank(b'e')
 }

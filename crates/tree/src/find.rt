@@ -4,7 +4,7 @@ ghost use mathlib.Core.List.{[]};
 ghost use Prim.Native.Nat.{_+_, _*_, _≤_, _<_};
 ghost use lib.ListN.{length, drop};
 ghost use Rattle.field.specs.Bytes.{part, zeroes};
-ghost use Rattle.page.specs.Page.{rowsOf};
+ghost use Rattle.page.specs.Page.{rowsOf, lastBase, firstLeaf};
 ghost use Rattle.page.specs.Pages.{page};
 ghost use Rattle.tree.specs.Answer.{lookUp, inLeaf};
 ghost use Rattle.tree.specs.Way.{lastTo, passable, wayDown, wayOn, recordIn, leafIn, replyOf, bytesOf};
@@ -42,7 +42,7 @@ fn last_not_above(pg: &[u8], n: u16, key: u32) -> Way
 
 // Whether a page may be passed as page p, root or base.
 fn node_ok(p: usize, pg: &[u8]) -> bool
-    requires { ⌜ p < 8 ⌝ }
+    requires { ⌜ p < firstLeaf ⌝ }
     ensures { λ r. ⌜ r ≡ passable p (now (pg .entry)) ⌝ }
 {
     if p == 0 {
@@ -53,7 +53,7 @@ fn node_ok(p: usize, pg: &[u8]) -> bool
 
 // The page below the page pg, a root or base page as page p.
 fn way_on(p: usize, pg: &[u8], key: u32) -> Way
-    requires { ⌜ (length (now pg) ≡ 256) × (p < 8) ⌝ }
+    requires { ⌜ (length (now pg) ≡ 256) × (p < firstLeaf) ⌝ }
     ensures { λ r. ⌜ r ≡ wayOn key p (now (pg .entry)) ⌝ }
 {
     if !node_ok(p, pg) {
@@ -64,7 +64,7 @@ fn way_on(p: usize, pg: &[u8], key: u32) -> Way
 
 // The page below page p, root or base, on the way to a key.
 pub fn down(w: &[u8], p: usize, key: u32) -> Way
-    requires { ⌜ (length (now w) ≡ 16384) × (p < 8) ⌝ }
+    requires { ⌜ (length (now w) ≡ 16384) × (p < firstLeaf) ⌝ }
     ensures { λ r. ⌜ r ≡ wayDown key p (now (w .entry)) ⌝ }
 {
     let at = 256 * p;
@@ -114,7 +114,7 @@ fn record_with(pg: &[u8], n: u16, key: u32) -> Found
 
 // The value of the record with this key on the page pg, a leaf page as page p.
 fn leaf_on(p: usize, pg: &[u8], key: u32) -> Found
-    requires { ⌜ (length (now pg) ≡ 256) × (7 < p) ⌝ }
+    requires { ⌜ (length (now pg) ≡ 256) × (lastBase < p) ⌝ }
     ensures { λ r. ⌜ (r .reply ≡ replyOf (leafIn key p (now (pg .entry)))) × (r .value ≡ bytesOf (leafIn key p (now (pg .entry)))) ⌝ }
 {
     if !form::is_leaf(pg) {
@@ -125,7 +125,7 @@ fn leaf_on(p: usize, pg: &[u8], key: u32) -> Found
 
 // The value of the record with this key on leaf page p.
 pub fn in_leaf(w: &[u8], p: usize, key: u32) -> Found
-    requires { ⌜ (length (now w) ≡ 16384) × (7 < p) × (p < 64) ⌝ }
+    requires { ⌜ (length (now w) ≡ 16384) × (lastBase < p) × (p < 64) ⌝ }
     ensures { λ r. ⌜ (r .reply ≡ replyOf (inLeaf key p (now (w .entry)))) × (r .value ≡ bytesOf (inLeaf key p (now (w .entry)))) ⌝ }
 {
     let at = 256 * p;

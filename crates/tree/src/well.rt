@@ -7,7 +7,7 @@ ghost use Prim.Native.Nat.{_+_, _*_, _≤_, _<_};
 ghost use lib.ListN.{length, drop};
 ghost use lib.Dec.{eqb};
 ghost use Rattle.field.specs.Test.{pick};
-ghost use Rattle.page.specs.Page.{rowsOf, pointing, count, rows};
+ghost use Rattle.page.specs.Page.{rowsOf, pointing, count, rows, toBases};
 ghost use Rattle.page.specs.Each.{Each};
 ghost use Rattle.page.specs.Pages.{page, pages};
 ghost use Rattle.tree.specs.Tree.{below, pointedOnce, rootEntries, baseEntries, startsAtZero, headed, wellFormed};
@@ -68,7 +68,7 @@ pub fn count_at(w: &[u8], p: usize) -> u16
 
 // Adds to counts how often the entries of the pages below n entries of the root pg point to each page.
 fn tally_under(w: &[u8], pg: &[u8], n: u16, counts: [u16; 64]) -> [u16; 64]
-    requires { ⌜ InForm (now w) × (16 + 8 * n ≤ length (now pg)) × (pointing 1 7 (rowsOf 8 n (drop 16 (now pg))) ≡ true) × Roomy counts (30 * n) ⌝ }
+    requires { ⌜ InForm (now w) × (16 + 8 * n ≤ length (now pg)) × (toBases (rowsOf 8 n (drop 16 (now pg))) ≡ true) × Roomy counts (30 * n) ⌝ }
     ensures { λ r. ⌜ Tallied r [] counts (below 8 (pages (now (w .entry))) (rowsOf 8 n (drop 16 (now (pg .entry))))) ⌝ }
 {
     let mut sum = counts;

@@ -12,7 +12,7 @@ use lib.Dec.{eqb, leb}
 use borrow.Author.Tests.{eq-eqb, ne-eqb, le-leb, lt-leb}
 use Rattle.field.specs.Test.{both, pick, given, when}
 use Rattle.field.specs.Bytes.{part, zeroes, le2}
-use Rattle.field.proofs.Test.{pick-true, pick-false, pick-either}
+use Rattle.field.proofs.Test.{pick-true, pick-false}
 use Rattle.field.proofs.Part.{split}
 use Rattle.page.specs.Page.{rowsOf, keyOf, toPage, count, entries, records}
 use Rattle.page.specs.Pages.{page, pages}
@@ -23,7 +23,7 @@ use Rattle.log.specs.Record.{Begin}
 use Rattle.tree.specs.Tree.{Leaf, under, pointers, leafAt, leavesUnder, leavesBelow}
 use Rattle.tree.proofs.Turn.{none-left, each-behind, under-page}
 use Rattle.unit.specs.Choice.{exceeds, joining, group, lowestEmpty, compactOf, larger, chooseCompact}
-use Rattle.unit.specs.Chosen.{pageNo, chosen, Picks, leafOf, toPages, joins, topOf}
+use Rattle.unit.specs.Chosen.{pageNo, chosen, Picks, leafOf, toPages, joins, Low, topOf}
 use Rattle.unit.specs.declared.choice.Choice.{Choice}
 use Rattle.unit.proofs.Groups.{length-toPages}
 use Rattle.unit.proofs.Ordered.{picks-as}
@@ -167,9 +167,9 @@ pub each-seven : (P : List ℕ → Type 0) (left at s : ℕ) (l : List ℕ) → 
 each-seven P left at s l e h more =
     rw (← (seven-rows (left - 1) s (drop (at + 8) l) e)) (each-take 7 (each-behind P left at l h more))
 
-pub larger-small : (a b r : ℕ) → r ≡ larger a b → a < 64 → b < 64 → r < 64
-unfolding larger
-larger-small a b r e h k = rw e (pick-either (λ (x : ℕ). x < 64) (leb a b) b a k h)
+pub larger-low : (a b r : ℕ) → r ≡ larger a b → Low a → b < 64 → Low r
+unfolding larger pick
+larger-low a b r e h k = rw e (split b a (λ l. rw (lt-leb a b l) h) (λ l. rw (le-leb a b l) (omega arith, k)))
 
 -- the choice among the leaves of base page b, n entries of the page l, is that among the last of these
 pub record Yet (w : List ℕ) (fill : ℕ) (lk : Option ℕ) (b : ℕ) (l : List ℕ) (from n low at left : ℕ) : Type 0 where

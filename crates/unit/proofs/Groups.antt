@@ -14,8 +14,9 @@ use Rattle.field.specs.Test.{both, all, pick, when}
 use Rattle.field.specs.Bytes.{part, zeroes, le2, le4}
 use Rattle.field.proofs.Test.{both-end, pick-true, pick-false}
 use Rattle.field.proofs.Number.{le2-drop}
-use Rattle.page.specs.Page.{rowsOf, keyOf, count, records, isEmpty}
+use Rattle.page.specs.Page.{rowsOf, keyOf, count, records}
 use Rattle.page.specs.Pages.{page, pages}
+use Rattle.page.specs.Places.{emptyLeaf}
 use Rattle.page.proofs.Rows.{page-row, length-rowsOf, rowsOf-add}
 use Rattle.page.proofs.Turns.{rows-next}
 use Rattle.tree.specs.Walk.{Spot}
@@ -55,10 +56,10 @@ module _ (low c : ℕ) where
     pub low-end! : c ≤ p → c ≡ lowestEmpty low c 0 (pages w)
     low-end! h = sym (e ∙ low-past p (drop p (pages w)) h)
 
-    module _ (z : Bool) (k : z ≡ isEmpty (page p w)) (h : p < c) (above : low < p) (small : c < 64) where
+    module _ (z : Bool) (k : z ≡ emptyLeaf p (page p w)) (h : p < c) (above : low < p) (small : c < 64) where
       turn : lowestEmpty low c 0 (pages w) ≡ pick z p (lowestEmpty low c (p + 1) (drop (p + 1) (pages w)))
       unfolding lowestEmpty
-      turn = e ∙ rw (pages-next p w (omega arith), lt-ltb low p above, lt-ltb p c h, k) (unfold all both in rw (both-end (isEmpty (page p w))))
+      turn = e ∙ rw (pages-next p w (omega arith), lt-ltb low p above, lt-ltb p c h, k) (unfold all both in rw (both-end (emptyLeaf p (page p w))))
 
       pub low-stop! : z ≡ true → p ≡ lowestEmpty low c 0 (pages w)
       low-stop! t = sym (turn ∙ pick-true z p _ t)

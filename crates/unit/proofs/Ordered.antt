@@ -8,12 +8,14 @@ use mathlib.Core.List.{List, [], _∷_, _++_}
 use mathlib.Core.Option.{Option, some, none}
 use lib.ListN.{length, drop, getD, length-drop}
 use lib.Dec.{eqb}
-use borrow.Author.Tests.{eqb-true, leb-true, eq-eqb, ne-eqb}
+use borrow.Author.Tests.{eqb-true, eqb-false, leb-true, eq-eqb, ne-eqb}
 use Rattle.field.specs.Test.{pick}
 use Rattle.field.proofs.Test.{both-1, both-2, all-head, pick-true, pick-false}
 use Rattle.field.proofs.Part.{split}
-use Rattle.page.specs.Page.{toPage, pointing, rows, isEmpty}
+use Rattle.page.specs.Page.{toPage, pointing, rows, firstBase, lastBase, firstLeaf, lastLeaf, toBases, isEmpty}
 use Rattle.page.specs.Pages.{page, pages}
+use Rattle.page.specs.Places.{Leafy, leafPage, emptyLeaf, place}
+use Rattle.page.proofs.Places.{leaf-page, leaf-page-in, place-first, place-next, place-below}
 use Rattle.page.proofs.Pages.{formed-page, getD-pages, length-pages}
 use Rattle.tree.specs.Tree.{Leaf, under, rootEntries, below, baseEntries, pointers, pointedOnce, wellFormed, leafAt, leavesUnder, leavesBelow, leavesOf}
 use Rattle.tree.specs.Walk.{InForm}
@@ -21,7 +23,7 @@ use Rattle.tree.proofs.Regions.{decide, root-points, base-points}
 use Rattle.tree.proofs.Tally.{pointers-append, once-at}
 use Rattle.tree.proofs.Sound.{root-entries, root-formed}
 use Rattle.log.specs.Record.{Begin}
-use Rattle.unit.specs.Choice.{place, moveOf, swapOf, putInOrder, baseOf, chooseOrder, orderUnit}
+use Rattle.unit.specs.Choice.{moveOf, swapOf, putInOrder, baseOf, chooseOrder, orderUnit}
 use Rattle.unit.specs.Chosen.{pageNo, Picks, leafOf, stray, inOrder}
 use Rattle.unit.specs.declared.choice.Choice.{Choice}
 use Rattle.field.specs.declared.PageNo.{PageNo}
@@ -60,19 +62,23 @@ pointers-none from to (e ∷ es) p t f =
     rw (ne-eqb (toPage e) p ne, pointers-none from to es p (both-2 _ _ t1) f) (unfold pick in refl)
 
 -- base entries point to leaf pages only
-level-none : (w : List ℕ) → InForm w → (es : List (List ℕ)) (p : ℕ) → pointing 1 7 es ≡ true → ((q : ℕ) → 8 ≤ q → q ≤ 63 → q ≡ p → ⊥) → pointers p (below 8 (pages w) es) ≡ 0
+level-none : (w : List ℕ) → InForm w → (es : List (List ℕ)) (p : ℕ) → toBases es ≡ true → ((q : ℕ) → Leafy q → q ≡ p → ⊥) → pointers p (below 8 (pages w) es) ≡ 0
 unfolding pointing below under
 level-none w f [] p t ne = unfold pointers in refl
 level-none w f (e ∷ es) p t ne =
     let t1 = both-2 _ _ t in
     let q : ℕ = toPage e in
-    let lo : 1 ≤ q = leb-true 1 q (both-1 _ _ t) in
-    let hi : q ≤ 7 = leb-true q 7 (both-1 _ _ t1) in
+    let lo : firstBase ≤ q = leb-true firstBase q (both-1 _ _ t) in
+    let hi : q ≤ lastBase = leb-true q lastBase (both-1 _ _ t1) in
     let s : q < 64 = omega arith in
-    let a : pointers p (rows 8 (page q w)) ≡ 0 = pointers-none 8 63 (rows 8 (page q w)) p (base-points q (page q w) (formed-page q w (f .forms) s) lo hi) ne in
+    let b = base-points q (page q w) (formed-page q w (f .forms) s) lo hi in
+    let a : pointers p (rows 8 (page q w)) ≡ 0 = pointers-none firstLeaf lastLeaf (rows 8 (page q w)) p b (λ k l m. ne k (l, m)) in
     rw (getD-pages q w s) (pointers-append p (rows 8 (page q w)) (below 8 (pages w) es) ∙ rw (a, level-none w f es p (both-2 _ _ t1) ne))
 
 -- ---- leaves on a page
+
+false-true : false ≡ true → ⊥
+false-true e = let z : _≡_ {A = ℕ} 0 1 = cc in omega arith
 
 -- how many of these leaves stand on page p
 held : (p : ℕ) → List Leaf → ℕ
@@ -96,22 +102,24 @@ module _ (w : List ℕ) (f : InForm w) where
   unfolding leavesOf baseEntries
   leaves-held p = held-below (pages w) p (rootEntries (pages w))
 
-  held-none : (p : ℕ) → ((q : ℕ) → 8 ≤ q → q ≤ 63 → q ≡ p → ⊥) → held p (leavesOf (pages w)) ≡ 0
+  held-none : (p : ℕ) → leafPage p ≡ false → held p (leavesOf (pages w)) ≡ 0
   unfolding baseEntries
-  held-none p ne = leaves-held p ∙ level-none w f (rootEntries (pages w)) p (rw (root-entries w) (root-points (page 0 w) (root-formed w f))) ne
+  held-none p e =
+      leaves-held p
+      ∙ level-none w f (rootEntries (pages w)) p (rw (root-entries w) (root-points (page 0 w) (root-formed w f)))
+      (λ q h z. false-true (sym e ∙ (rw z at (leaf-page q h))))
 
   held-once : wellFormed (pages w) ≡ true → (p : ℕ) → held p (leavesOf (pages w)) ≤ 1
   held-once well p =
-      split p 8
-      (λ a. omega (arith, held-none p (λ q lo hi z. omega arith)))
-      (λ a. split p 64
-      (λ b. omega (arith, leaves-held p, pointed-once w well p (omega arith) b))
-      (λ b. omega (arith, held-none p (λ q lo hi z. omega arith))))
+      decide (leafPage p)
+      (λ t. let h = leaf-page-in p t in
+      omega (arith, leaves-held p, pointed-once w well p (omega arith) (omega arith)))
+      (λ t. omega (arith, held-none p t))
 
--- ---- the first misplaced leaf stands above its place
+-- ---- the first misplaced leaf stands above its place, so that a leaf may stand there
 
-at-parts : (want b p want′ b′ p′ : PageNo) → At want b p ≡ At want′ b′ p′ → (want ≡ want′) × (p ≡ p′)
-at-parts want b p want′ b′ p′ e = (cc, cc)
+at-want : (want b p want′ b′ p′ : PageNo) → At want b p ≡ At want′ b′ p′ → want .0 ≡ want′ .0
+at-want want b p want′ b′ p′ e = cc
 
 nowhere-at : (want b p : PageNo) → Nowhere ≡ At want b p → ⊥
 nowhere-at want b p e = let z : _≡_ {A = ℕ} 0 1 = cc in omega arith
@@ -120,43 +128,40 @@ one-at : (a b : ℕ) → a ≡ b → _≡_ {A = ℕ} (pick (eqb a b) 1 0) 1
 unfolding pick
 one-at a b e = rw (eq-eqb a b e)
 
-stray-above : (i : ℕ) (ls : List Leaf) (want b p : PageNo) → ((q : ℕ) → q < place i → held q ls ≡ 0) → ((q : ℕ) → held q ls ≤ 1) → stray i ls ≡ At want b p
-    → (want .0 < p .0) × (1 ≤ held (p .0) ls)
+stray-leafy : (i : ℕ) (ls : List Leaf) (want b p : PageNo) → ((q : ℕ) → leafPage q ≡ false → held q ls ≡ 0) → ((q : ℕ) → q < place i → held q ls ≡ 0)
+    → ((q : ℕ) → held q ls ≤ 1) → stray i ls ≡ At want b p → Leafy (want .0)
 unfolding stray held
-stray-above i [] want b p clear twice e = absurd (nowhere-at want b p e)
-stray-above i (l ∷ ls) want b p clear twice e =
+stray-leafy i [] want b p bare clear twice e = absurd (nowhere-at want b p e)
+stray-leafy i (l ∷ ls) want b p bare clear twice e =
     decide (eqb (l .at) (place i))
     (λ t. let z : l .at ≡ place i = eqb-true (l .at) (place i) t in
     let e1 : stray (i + 1) ls ≡ At want b p = sym (pick-true (eqb (l .at) (place i)) (stray (i + 1) ls) (At (pageNo (place i)) (pageNo (l .base)) (pageNo (l .at))) t) ∙ e in
-    let n : place (i + 1) ≡ place i + 1 = unfold place in omega arith in
     let clear1 : (q : ℕ) → q < place (i + 1) → held q ls ≡ 0 =
-    λ q h. split q (place i)
+    λ q h. decide (leafPage q)
+    (λ u. let k : q ≤ place i = place-next i q u h in
+    split q (place i)
     (λ a. omega (arith, clear q a))
     (λ a. let y : l .at ≡ q = omega arith in
-    omega (arith, twice q, one-at (l .at) q y)) in
-    let r = stray-above (i + 1) ls want b p clear1 (λ q. omega (arith, twice q)) e1 in
-    (r .0, omega (arith, r .1)))
-    (λ t. let ne : l .at ≡ place i → ⊥ = λ z. false-true (sym t ∙ eq-eqb (l .at) (place i) z) in
+    omega (arith, twice q, one-at (l .at) q y)))
+    (λ u. omega (arith, bare q u)) in
+    stray-leafy (i + 1) ls want b p (λ q u. omega (arith, bare q u)) clear1 (λ q. omega (arith, twice q)) e1)
+    (λ t. let ne : l .at ≡ place i → ⊥ = eqb-false (l .at) (place i) t in
     let e1 : At (pageNo (place i)) (pageNo (l .base)) (pageNo (l .at)) ≡ At want b p = sym
     (pick-false (eqb (l .at) (place i)) (stray (i + 1) ls) (At (pageNo (place i)) (pageNo (l .base)) (pageNo (l .at))) t) ∙ e in
-    let x = at-parts (pageNo (place i)) (pageNo (l .base)) (pageNo (l .at)) want b p e1 in
-    let y : l .at ≡ p .0 = ap (λ (z : PageNo). z .0) (x .1) in
-    let v : place i ≡ want .0 = ap (λ (z : PageNo). z .0) (x .0) in
-    split (p .0) (place i)
-    (λ a. absurd (let c : ⊥ = omega (arith, clear (p .0) a, one-at (l .at) (p .0) y) in c))
-    (λ a. (split (place i) (p .0) (λ k. omega (arith, v)) (λ k. absurd (ne (omega arith))), omega (arith, one-at (l .at) (p .0) y))))
-  where
-    false-true : false ≡ true → ⊥
-    false-true q = let z : _≡_ {A = ℕ} 0 1 = cc in omega arith
+    let v : place i ≡ want .0 = at-want (pageNo (place i)) (pageNo (l .base)) (pageNo (l .at)) want b p e1 in
+    let here = one-at (l .at) (l .at) refl in
+    let stands : leafPage (l .at) ≡ true =
+    decide (leafPage (l .at)) (λ u. u) (λ u. absurd (let c : ⊥ = omega (arith, bare (l .at) u) in c)) in
+    let above : place i < l .at =
+    split (place i) (l .at) (λ a. a)
+    (λ a. split (l .at) (place i) (λ k. absurd (let c : ⊥ = omega (arith, clear (l .at) k) in c)) (λ k. absurd (ne (omega arith)))) in
+    rw (← v) (leaf-page-in (place i) (place-below i (l .at) stands above)))
 
-pub want-small : (w : List ℕ) (s : Stray) (want b p : PageNo) → s ≡ At want b p → s ≡ stray 0 (leavesOf (pages w)) → InForm w → wellFormed (pages w) ≡ true → want .0 < 64
-want-small w s want b p h k f well =
-    let e : stray 0 (leavesOf (pages w)) ≡ At want b p = sym k ∙ h in
-    let low : (q : ℕ) → q < place 0 → held q (leavesOf (pages w)) ≡ 0 = λ q h. held-none w f q (λ k lo hi z. unfold place in omega arith) in
-    let r = stray-above 0 (leavesOf (pages w)) want b p low (held-once w f well) e in
-    split (p .0) 64
-    (λ a. omega (arith, r .0))
-    (λ a. absurd (let c : ⊥ = omega (arith, r .1, held-none w f (p .0) (λ k lo hi z. omega arith)) in c))
+pub want-leafy : (w : List ℕ) (s : Stray) (want b p : PageNo) → s ≡ At want b p → s ≡ stray 0 (leavesOf (pages w)) → InForm w → wellFormed (pages w) ≡ true → Leafy (want .0)
+want-leafy w s want b p h k f well =
+    stray-leafy 0 (leavesOf (pages w)) want b p (held-none w f)
+    (λ q a. decide (leafPage q) (λ u. absurd (let c : ⊥ = omega (arith, place-first q u) in c)) (held-none w f q))
+    (held-once w f well) (sym k ∙ h)
 
 -- ---- the unit
 
@@ -188,10 +193,10 @@ module _ (w : List ℕ) (s : Stray) (e : s ≡ stray 0 (leavesOf (pages w))) (r 
   pub order-none! : s ≡ Nowhere → Picks r (λ u. none) → Picks r (λ u. orderUnit u (pages w))
   order-none! h p = picks-as r _ _ p (λ u. sym (order-stray u (pages w) ∙ rw (← e, h) (unfold inOrder in refl)))
 
-  module _ (want b q : PageNo) (h : s ≡ At want b q) (z : Bool) (k : z ≡ isEmpty (page (want .0) w)) (small : want .0 < 64) where
+  module _ (want b q : PageNo) (h : s ≡ At want b q) (z : Bool) (k : z ≡ emptyLeaf (want .0) (page (want .0) w)) (leafy : Leafy (want .0)) where
     right : (u : ℕ) → orderUnit u (pages w) ≡ some (pick z (moveOf u (leafOf (b .0) (q .0)) (want .0))
         (swapOf u (leafOf (b .0) (q .0)) (want .0) (baseOf (want .0) (leavesOf (pages w)))))
-    right u = order-stray u (pages w) ∙ rw (← e, h) (unfold inOrder putInOrder in rw (getD-pages (want .0) w small, k))
+    right u = order-stray u (pages w) ∙ rw (← e, h) (unfold inOrder putInOrder in rw (getD-pages (want .0) w (omega arith), k))
 
     pub order-move! : z ≡ true → Picks r (λ u. some (moveOf u (leafOf (b .0) (q .0)) (want .0))) → Picks r (λ u. orderUnit u (pages w))
     order-move! t p = picks-as r _ _ p (λ u. sym (right u ∙ ap some (pick-true z _ _ t)))

@@ -10,7 +10,7 @@ use lib.Dec.{eqb}
 use borrow.Author.Tests.{eq-eqb}
 use Rattle.field.specs.Test.{pick, given, when}
 use Rattle.field.specs.Bytes.{le2}
-use Rattle.page.specs.Page.{rowsOf, toPage, count, rows}
+use Rattle.page.specs.Page.{rowsOf, toPage, count, rows, lastBase}
 use Rattle.page.specs.Pages.{page, pages}
 use Rattle.page.specs.Each.{Each, nil, cons}
 use Rattle.page.proofs.Rows.{page-row}
@@ -21,12 +21,12 @@ use Rattle.tree.specs.Walk.{InForm, Below, Over, Above}
 use Rattle.tree.proofs.Turn.{each-behind, over-here}
 use Rattle.tree.proofs.Sound.{root-entries, all-over, over-asks}
 use Rattle.unit.specs.Choice.{fillOf, chooseCompact, compactUnit}
-use Rattle.unit.specs.Chosen.{chosen, Picks, topOf}
+use Rattle.unit.specs.Chosen.{chosen, Picks, Low, topOf}
 use Rattle.unit.specs.declared.choice.Choice.{Choice}
 use Rattle.unit.proofs.Walk.{root-front, leaves-next, leaves-end, Ahead, ahead-all, ahead-behind, ahead-base, base-rows}
 use Rattle.unit.proofs.Strays.{leaves-all}
 use Rattle.unit.proofs.Ordered.{once, pointed-once, picks-as}
-use Rattle.unit.proofs.Chooses.{choose-append, stops-below, larger-small}
+use Rattle.unit.proofs.Chooses.{choose-append, stops-below, larger-low}
 
 -- `left` root entries from the offset at: base pages with leaves below them, no two of them the same
 pub record Roots (w : List ℕ) (at left : ℕ) : Type 0 where
@@ -85,14 +85,14 @@ module _ (w : List ℕ) (at left : ℕ) (r : Roots w at left) (more : 0 < left) 
           (choose-append u fill lk (pages w) q _ (stops-below (pages w) fill q _ gone) low (rows 8 (page q w))
           ∙ rw (append-nil (leavesUnder (pages w) q (rows 8 (page q w)))))
 
--- the largest page stays a page
-top-less : (w : List ℕ) (es : List (List ℕ)) (low : ℕ) → Each (Below 16 w) es → low < 64 → topOf low es < 64
+-- the largest page may be L
+top-of-low : (w : List ℕ) (es : List (List ℕ)) (low : ℕ) → Each (Below 16 w) es → Low low → Low (topOf low es)
 unfolding topOf
-top-less w [] low nil h = h
-top-less w (e ∷ es) low (cons s p) h = top-less w es _ p (larger-small low (toPage e) _ refl h (s .inside))
+top-of-low w [] low nil h = h
+top-of-low w (e ∷ es) low (cons s p) h = top-of-low w es _ p (larger-low low (toPage e) _ refl h (s .inside))
 
-pub top-small : (w : List ℕ) (es : List (List ℕ)) (low top : ℕ) → top ≡ topOf low es → Each (Below 16 w) es → low < 64 → top < 64
-top-small w es low top e p h = rw e (top-less w es low p h)
+pub top-low : (w : List ℕ) (es : List (List ℕ)) (low top : ℕ) → top ≡ topOf low es → Each (Below 16 w) es → Low low → Low top
+top-low w es low top e p h = rw e (top-of-low w es low p h)
 
 -- ---- the loop over the base pages
 
@@ -100,7 +100,7 @@ top-small w es low top e p h = rw e (top-less w es low p h)
 pub record Still (w : List ℕ) (fill : ℕ) (lk : Option ℕ) (most low at left : ℕ) : Type 0 where
   pub same : (u : ℕ) → compactUnit u fill lk (pages w) ≡ chooseCompact u most low lk (pages w) (leavesBelow (pages w) (rowsOf 8 left (drop at w)))
 
-pub still-all : (w : List ℕ) (fill : ℕ) (lk : Option ℕ) (most n : ℕ) → Roots w 16 n → n ≡ count (page 0 w) → most ≡ fillOf fill → Still w fill lk most 7 16 n
+pub still-all : (w : List ℕ) (fill : ℕ) (lk : Option ℕ) (most n : ℕ) → Roots w 16 n → n ≡ count (page 0 w) → most ≡ fillOf fill → Still w fill lk most lastBase 16 n
 unfolding compactUnit
 still-all w fill lk most n r e f = record { same = λ u. rw (← f, ← (leaves-all w n (r .ahead) e)) }
 

@@ -12,11 +12,12 @@ use Rattle.field.specs.Test.{pick}
 use Rattle.field.specs.Bytes.{le2}
 use Rattle.page.specs.Page.{rowsOf, toPage, count, rows}
 use Rattle.page.specs.Pages.{page, pages}
+use Rattle.page.specs.Places.{place}
 use Rattle.page.proofs.Rows.{page-row, length-rows}
 use Rattle.page.proofs.Turns.{rows-next}
 use Rattle.tree.specs.Tree.{Leaf, leafAt, leavesUnder, leavesBelow, leavesOf}
 use Rattle.tree.proofs.Turn.{none-left}
-use Rattle.unit.specs.Choice.{place, baseOf}
+use Rattle.unit.specs.Choice.{baseOf}
 use Rattle.unit.specs.Chosen.{pageNo, strayIn, stray, pointsTo}
 use Rattle.unit.proofs.Walk.{leaves-next, leaves-end, root-front, Ahead, ahead-base, base-rows}
 use Rattle.field.specs.declared.PageNo.{PageNo}

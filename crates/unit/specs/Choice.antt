@@ -6,7 +6,8 @@ use mathlib.Core.Option.{Option, some, none}
 use lib.ListN.{length, getD}
 use lib.Dec.{eqb, leb, ltb}
 use Rattle.field.specs.Test.{both, all, pick}
-use Rattle.page.specs.Page.{isEmpty}
+use Rattle.page.specs.Page.{lastBase}
+use Rattle.page.specs.Places.{emptyLeaf, place}
 use Rattle.log.specs.Record.{Begin}
 use Rattle.tree.specs.Tree.{Leaf, leavesOf}
 
@@ -39,7 +40,7 @@ unfoldable pub lowestEmpty : (low c p : ℕ) → (pgs : List (List ℕ)) → ℕ
 lowestEmpty low c p [] = c
 lowestEmpty low c p (pg ∷ pgs) =
     let rest = lowestEmpty low c (p + 1) pgs in
-    pick (all (ltb low p ∷ ltb p c ∷ isEmpty pg ∷ [])) p rest
+    pick (all (ltb low p ∷ ltb p c ∷ emptyLeaf p pg ∷ [])) p rest
 
 unfoldable pub compactOf : (unit fill : ℕ) → (c : Leaf) → (leaves : List ℕ) → (dest : ℕ) → Begin
 compactOf u fill c leaves dest = record { unit = u; type = 1; fill = fill; bases = c .base ∷ []; leaves = leaves; dest = dest }
@@ -57,13 +58,9 @@ chooseCompact u fill low lk ps (c ∷ next) =
     pick (both (exceeds (c .first) lk) (leb 2 (length leaves))) this later
 
 unfoldable pub compactUnit : (unit fill : ℕ) (lk : Option ℕ) → (ps : List (List ℕ)) → Option Begin
-compactUnit u fill lk ps = chooseCompact u (fillOf fill) 7 lk ps (leavesOf ps)
+compactUnit u fill lk ps = chooseCompact u (fillOf fill) lastBase lk ps (leavesOf ps)
 
 -- ---- order
-
--- "the i-th leaf in key order, from 0, belongs on page 8 + i"
-unfoldable pub place : (i : ℕ) → ℕ
-place i = 8 + i
 
 -- the base page of the leaf on page p
 unfoldable pub baseOf : (p : ℕ) → List Leaf → ℕ
@@ -83,7 +80,7 @@ swapOf u l a baseA = record { unit = u; type = 2; fill = 0; bases = oneOrTwo bas
 
 -- "If its place is empty, move it there; otherwise swap"
 unfoldable pub putInOrder : (unit wanted : ℕ) (ps : List (List ℕ)) (ls : List Leaf) → (l : Leaf) → Begin
-putInOrder u wanted ps ls l = pick (isEmpty (getD ps wanted [])) (moveOf u l wanted) (swapOf u l wanted (baseOf wanted ls))
+putInOrder u wanted ps ls l = pick (emptyLeaf wanted (getD ps wanted [])) (moveOf u l wanted) (swapOf u l wanted (baseOf wanted ls))
 
 -- "Take the first misplaced one": ls are all leaves, rest those from the i-th on
 unfoldable pub chooseOrder : (unit : ℕ) (ps : List (List ℕ)) (ls : List Leaf) (i : ℕ) → (rest : List Leaf) → Option Begin

@@ -1,6 +1,6 @@
 -- A chosen unit as the code holds it, and the walks over the leaves in key order as the code makes them, by root and base entries.
 -- Assumes nothing.
-use Prim.Native.Nat.{ℕ, suc, _+_, _-_, _≤_}
+use Prim.Native.Nat.{ℕ, suc, _+_, _-_, _≤_, _<_}
 use mathlib.Core.Path.{_≡_}
 use mathlib.Core.Bool.{Bool, true, false}
 use mathlib.Core.List.{List, [], _∷_}
@@ -9,11 +9,12 @@ use lib.ListN.{take, drop}
 use lib.Dec.{eqb, leb}
 use Rattle.field.specs.Test.{pick, when}
 use Rattle.field.specs.Bytes.{zeroes}
-use Rattle.page.specs.Page.{toPage, count}
+use Rattle.page.specs.Page.{lastBase, toPage, count}
+use Rattle.page.specs.Places.{place}
 use Rattle.field.specs.declared.PageNo.{PageNo}
 use Rattle.log.specs.Record.{Begin}
 use Rattle.tree.specs.Tree.{Leaf, under}
-use Rattle.unit.specs.Choice.{larger, place, putInOrder}
+use Rattle.unit.specs.Choice.{larger, putInOrder}
 use Rattle.unit.specs.declared.choice.Choice.{Choice}
 use Rattle.unit.specs.declared.order.Stray.{Stray}
 use Rattle.unit.specs.declared.order.Stray.the-variants.{Nowhere, At}
@@ -83,6 +84,10 @@ joins ps fill sum [] = 0
 joins ps fill sum (e ∷ es) =
     let rest = joins ps fill (sum + count (under ps e)) es in
     pick (leb (sum + count (under ps e)) fill) (suc rest) 0
+
+-- what may be L: a page, the last base page or a later one
+abbrev pub Low : (low : ℕ) → Type 0
+Low low = (lastBase ≤ low) × (low < 64)
 
 -- the largest of low and the pages that these entries point to
 unfoldable pub topOf : (low : ℕ) → (es : List (List ℕ)) → ℕ

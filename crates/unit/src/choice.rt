@@ -2,8 +2,8 @@
 ghost use mathlib.Core.Path.{_≡_};
 ghost use Prim.Native.Nat.{_+_, _*_, _<_};
 ghost use mathlib.Core.Option.{none, some};
-ghost use Rattle.page.specs.Page.{isEmpty};
 ghost use Rattle.page.specs.Pages.{page};
+ghost use Rattle.page.specs.Places.{Leafy, emptyLeaf};
 ghost use Rattle.tree.specs.Walk.{InForm};
 ghost use Rattle.unit.specs.Choice.{moveOf, swapOf};
 ghost use Rattle.unit.specs.Chosen.{Picks, leafOf};
@@ -83,10 +83,10 @@ pub fn swapping(base: PageNo, page: PageNo, a: PageNo, other: PageNo) -> Choice
     }
 }
 
-// Whether page p is empty: its letter says so.
+// Whether page p, one of the leaf pages, is empty: its letter says so.
 pub fn empty_at(w: &[u8], p: PageNo) -> bool
-    requires { ⌜ InForm (now w) × (p .0 < 64) ⌝ }
-    ensures { λ r. ⌜ r ≡ isEmpty (page (p .0) (now (w .entry))) ⌝ }
+    requires { ⌜ InForm (now w) × Leafy (p .0) ⌝ }
+    ensures { λ r. ⌜ r ≡ emptyLeaf (p .0) (page (p .0) (now (w .entry))) ⌝ }
 {
     w[256 * (p.0 as usize) + 1] == b'e'
 }

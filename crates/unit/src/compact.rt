@@ -15,10 +15,11 @@ ghost use Rattle.page.specs.Each.{Each};
 ghost use Rattle.tree.specs.Tree.{leavesUnder, wellFormed};
 ghost use Rattle.tree.specs.Walk.{InForm, Spot, Below};
 ghost use Rattle.unit.specs.Choice.{fillOf, exceeds, lowestEmpty, compactOf, larger, chooseCompact, compactUnit};
-ghost use Rattle.unit.specs.Chosen.{Picks, leafOf, toPages, joins, topOf};
+ghost use Rattle.unit.specs.Chosen.{Picks, leafOf, toPages, joins, Low, topOf};
 use crate::choice;
 use crate::choice::Choice;
 use field::PageNo;
+use page::bounds;
 use tree::well;
 
 // The fill that is meant: 0 means 12.
@@ -41,9 +42,9 @@ fn larger(a: PageNo, b: PageNo) -> PageNo
     a
 }
 
-// The lowest empty page above `low` and below c, c where there is none.
+// The lowest empty leaf page above `low` and below c, c where there is none.
 fn lowest_empty(w: &[u8], low: PageNo, c: PageNo) -> PageNo
-    requires { ⌜ InForm (now w) × (low .0 < 64) × (c .0 < 64) ⌝ }
+    requires { ⌜ InForm (now w) × Low (low .0) × (c .0 < 64) ⌝ }
     ensures { λ r. ⌜ r .0 ≡ lowestEmpty (low .0) (c .0) 0 (pages (now (w .entry))) ⌝ }
 {
     let above = low.0;
@@ -142,7 +143,7 @@ fn compacting(
     fill: u16,
     low: PageNo,
 ) -> Choice
-    requires { ⌜ InForm (now w) × (low .0 < 64) × (c .0 < 64) × (fill ≤ 15) ⌝ }
+    requires { ⌜ InForm (now w) × Low (low .0) × (c .0 < 64) × (fill ≤ 15) ⌝ }
     requires { ⌜ (k ≤ 8) × (start + 8 * k ≤ length (now pg)) ⌝ }
     ensures { λ r. ⌜ Picks r (λ u. some (compactOf u fill (leafOf (b .0) (c .0)) (toPages (rowsOf 8 k (drop start (now (pg .entry))))) (lowestEmpty (low .0) (c .0) 0 (pages (now (w .entry)))))) ⌝ }
 {
@@ -182,7 +183,7 @@ fn compact_in(
     lk: u32,
     from: PageNo,
 ) -> Choice
-    requires { ⌜ InForm (now w) × (16 + 8 * n ≤ length (now pg)) × (fill ≤ 15) × (from .0 < 64) ⌝ }
+    requires { ⌜ InForm (now w) × Low (from .0) × (16 + 8 * n ≤ length (now pg)) × (fill ≤ 15) ⌝ }
     requires { ⌜ Each (Below 16 (now w)) (rowsOf 8 n (drop 16 (now pg))) ⌝ }
     ensures { λ r. ⌜ Picks r (λ u. chooseCompact u fill (from .0) (when there lk) (pages (now (w .entry))) (leavesUnder (pages (now (w .entry))) (b .0) (rowsOf 8 n (drop 16 (now (pg .entry)))))) ⌝ }
 {
@@ -215,7 +216,7 @@ pub fn choose_compact(w: &[u8], fill: u32, there: bool, lk: u32) -> Choice
     ensures { λ r. ⌜ Picks r (λ u. compactUnit u fill (when there lk) (pages (now (w .entry)))) ⌝ }
 {
     let most = fill_of(fill);
-    let mut low = PageNo(7);
+    let mut low = PageNo(bounds::LAST_BASE);
     let mut at: usize = 16;
     let mut left = well::count_at(w, 0);
     while 0 < left {

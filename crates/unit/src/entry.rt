@@ -5,7 +5,7 @@ ghost use Prim.Native.Nat.{_+_, _*_, _≤_, _<_};
 ghost use lib.ListN.{length, drop};
 ghost use lib.Dec.{eqb};
 ghost use Rattle.field.specs.Test.{both, when};
-ghost use Rattle.page.specs.Page.{rowsOf, entries, formed};
+ghost use Rattle.page.specs.Page.{rowsOf, entries, firstLeaf, formed};
 ghost use Rattle.page.specs.Pages.{page};
 ghost use Rattle.unit.specs.Next.{isOther, lowestTo};
 ghost use Rattle.unit.specs.Made.{keyIn, placeOf};
@@ -83,7 +83,7 @@ pub fn entry_with(pg: &[u8], n: u16, key: u32, p: PageNo) -> u16
 
 // The key of the lowest entry of page b, root or base, that points to page p, but for the one with the key to skip, if there is one.
 pub fn lowest_at(w: &[u8], b: PageNo, p: PageNo, skip: bool, skipped: u32) -> Lowest
-    requires { ⌜ (length (now w) ≡ 16384) × (b .0 < 8) × (formed (b .0) (page (b .0) (now w)) ≡ true) ⌝ }
+    requires { ⌜ (length (now w) ≡ 16384) × (b .0 < firstLeaf) × (formed (b .0) (page (b .0) (now w)) ≡ true) ⌝ }
     ensures { λ r. ⌜ keyIn r ≡ lowestTo (when skip skipped) (p .0) (entries (page (b .0) (now (w .entry)))) ⌝ }
 {
     let n = well::count_at(w, b.0 as usize);

@@ -8,11 +8,12 @@ ghost use Rattle.page.specs.Page.{rowsOf};
 ghost use Rattle.page.specs.Pages.{pages};
 ghost use Rattle.tree.specs.Tree.{leavesOf, wellFormed};
 ghost use Rattle.tree.specs.Walk.{InForm};
-ghost use Rattle.unit.specs.Choice.{place, baseOf, orderUnit};
+ghost use Rattle.unit.specs.Choice.{baseOf, orderUnit};
 ghost use Rattle.unit.specs.Chosen.{Picks, strayIn, stray, pointsTo};
 use crate::choice;
 use crate::choice::Choice;
 use field::PageNo;
+use page::bounds;
 use tree::well;
 
 // The first misplaced leaf: the page where it belongs, its base page and its own page.
@@ -25,14 +26,6 @@ pub enum Stray {
     },
 }
 
-// The page where the i-th leaf in key order belongs.
-fn place(i: u16) -> PageNo
-    requires { ⌜ i < 1000 ⌝ }
-    ensures { λ r. ⌜ r .0 ≡ place i ⌝ }
-{
-    PageNo(8 + i)
-}
-
 // The first misplaced leaf below n entries of the base page b, whose bytes are pg; the first of them is the i-th leaf in key order.
 fn stray_in(pg: &[u8], n: u16, b: PageNo, first: u16) -> Stray
     requires { ⌜ (16 + 8 * n ≤ length (now pg)) × (first + n < 1000) ⌝ }
@@ -43,7 +36,7 @@ fn stray_in(pg: &[u8], n: u16, b: PageNo, first: u16) -> Stray
     let mut left = n;
     while 0 < left {
         let p = PageNo(field::get2(pg, at + 6));
-        let want = place(i);
+        let want = bounds::place(i);
         if p.0 != want.0 {
             return Stray::At {
                 want: want,

@@ -23,8 +23,8 @@ type-ok-requires c κs = search needs
 returns : tie.Need-returns
 returns c = search begin-type!
 
-within-requires : tie.Need-within-requires
-within-requires c κs = omega (arith, few c)
+on-bases-requires : tie.Need-on-bases-requires
+on-bases-requires c κs = omega (arith, few c)
 
 returns-2 : tie.Need-returns-2
 returns-2 c = search begin-bases!
@@ -35,8 +35,8 @@ differ-requires c κs = omega (arith, few (c .before .before))
 returns-3 : tie.Need-returns-3
 returns-3 c = search begin-differ!
 
-within-requires-2 : tie.Need-within-requires-2
-within-requires-2 c κs = omega (arith, few (c .before .before .before .before))
+on-leaves-requires : tie.Need-on-leaves-requires
+on-leaves-requires c κs = omega (arith, few (c .before .before .before .before))
 
 returns-4 : tie.Need-returns-4
 returns-4 c = search begin-leaves!
@@ -55,11 +55,11 @@ begin-ok-spec =
     byte-at-requires-2
     type-ok-requires
     returns
-    within-requires
+    on-bases-requires
     returns-2
     differ-requires
     returns-3
-    within-requires-2
+    on-leaves-requires
     returns-4
     differ-requires-2
     returns-5)

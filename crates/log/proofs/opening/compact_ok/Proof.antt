@@ -28,8 +28,8 @@ returns-4 c = search compact-low!
 returns-5 : tie.Need-returns-5
 returns-5 c = search compact-high!
 
-within-requires : tie.Need-within-requires
-within-requires c κs = search needs
+on-leaves-requires : tie.Need-on-leaves-requires
+on-leaves-requires c κs = search needs
 
 returns-6 : tie.Need-returns-6
 returns-6 c = search compact-dest!
@@ -61,7 +61,7 @@ compact-ok-spec =
     byte-at-requires-3
     returns-4
     returns-5
-    within-requires
+    on-leaves-requires
     returns-6
     get2-requires
     get2-requires-2

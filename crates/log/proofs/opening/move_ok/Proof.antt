@@ -22,8 +22,8 @@ byte-at-requires-3 c κs = search needs
 returns-3 : tie.Need-returns-3
 returns-3 c = search move-fill!
 
-within-requires : tie.Need-within-requires
-within-requires c κs = search needs
+on-leaves-requires : tie.Need-on-leaves-requires
+on-leaves-requires c κs = search needs
 
 returns-4 : tie.Need-returns-4
 returns-4 c = search move-dest!
@@ -47,7 +47,7 @@ move-ok-spec =
     returns-2
     byte-at-requires-3
     returns-3
-    within-requires
+    on-leaves-requires
     returns-4
     get2-requires
     listed-requires

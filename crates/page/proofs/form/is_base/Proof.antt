@@ -1,6 +1,6 @@
--- `page::form::is_base` meets its contract: entries, at least one, to pages 8 to 63. Assumes nothing.
+-- `page::form::is_base` meets its contract: entries, at least one, to leaf pages. Assumes nothing.
 use native.Mathlib.Omega.{arith}
-use Rattle.page.specs.Page.{isBase}
+use Rattle.page.specs.Page.{firstLeaf, lastLeaf, isBase}
 use Rattle.page.proofs.Tests.{head-whole, head-most, points-head!, points-body! }
 use borrow.Author.Needs.{needs}
 use Rattle.page.proofs.form.is_base.Statement.{statement}
@@ -11,7 +11,13 @@ head-ok-requires c κs = search needs
 
 returns : tie.Need-returns
 unfolding isBase
-returns c = let a = c .before .before .before in points-head! 98 8 101 110 1 30 (a .args .pg .now) _ (c .before .head-ok .ensures) 8 63 (c .if1 .taken)
+returns c = let a = c .before .before .before in points-head! 98 8 101 110 1 30 (a .args .pg .now) _ (c .before .head-ok .ensures) firstLeaf lastLeaf (c .if1 .taken)
+
+cast-entries-ok : tie.Need-cast-entries-ok
+cast-entries-ok c = omega arith
+
+cast-entries-ok-2 : tie.Need-cast-entries-ok-2
+cast-entries-ok-2 c = omega arith
 
 entries-ok-requires : tie.Need-entries-ok-requires
 entries-ok-requires c κs =
@@ -23,7 +29,7 @@ returns-2 : tie.Need-returns-2
 unfolding isBase
 returns-2 c =
     let a = c .before .before .before .before in
-    points-body! 98 8 101 110 1 30 (a .args .pg .now) _ (c .before .before .head-ok .ensures) 8 63 (c .before .if1 .left) _ (c .entries-ok .ensures)
+    points-body! 98 8 101 110 1 30 (a .args .pg .now) _ (c .before .before .head-ok .ensures) firstLeaf lastLeaf (c .before .if1 .left) _ (c .entries-ok .ensures)
 
 pub is-base-spec : {M : Type 1} → statement M
-is-base-spec = tie.close (tie.spec head-ok-requires returns entries-ok-requires returns-2)
+is-base-spec = tie.close (tie.spec head-ok-requires returns cast-entries-ok cast-entries-ok-2 entries-ok-requires returns-2)

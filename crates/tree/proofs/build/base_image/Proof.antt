@@ -2,6 +2,7 @@
 use Prim.Native.Nat.{ℕ, _<_, _-_, _*_, _/_, min}
 use mathlib.Core.Path.{_≡_, ap, _∙_}
 use lib.ListN.{length}
+use Rattle.page.specs.Places.{place}
 use Rattle.tree.specs.Pieces.{pieces}
 use Rattle.tree.proofs.Laid.{small-product, base-none, base-some, base-leaves}
 use native.Mathlib.Omega.{arith}
@@ -25,35 +26,36 @@ sub-least c = search needs
 least-requires : tie.Need-least-requires
 least-requires c κs = search needs
 
-cast-t10 : tie.Need-cast-t10
-cast-t10 c = search needs
+cast-place : tie.Need-cast-place
+cast-place c = search needs
 
-add-t11 : tie.Need-add-t11
-add-t11 c = search needs
+place-requires : tie.Need-place-requires
+place-requires c κs = omega (arith, c .before .before .before .pre .0 .leaves)
 
 entries-image-requires : tie.Need-entries-image-requires
+unfolding place
 entries-image-requires c κs =
-    let a = c .before .before .before in
-    let m = c .least in
+    let a = c .before .before .before .before in
+    let m = c .before .least in
     let em : m .result ≡ min (a .args .g) (pieces (length (a .args .records .now) / 16) (a .args .f) - a .args .g * a .args .j) =
     m .ensures ∙ ap (λ (x : ℕ). min (a .args .g) (x - a .args .g * a .args .j)) (a .pre .1) in
-    let h : a .args .g * a .args .j < pieces (length (a .args .records .now) / 16) (a .args .f) = omega (arith, a .pre .1, c .before .if1 .left) in (
+    let h : a .args .g * a .args .j < pieces (length (a .args .records .now) / 16) (a .args .f) = omega (arith, a .pre .1, c .before .before .if1 .left) in (
       a .pre .0 .leaf-least,
       omega arith,
       omega (arith, a .pre .0 .base-most),
-      omega (arith, a .pre .0 .leaves),
+      omega (arith, a .pre .0 .leaves, c .place .ensures),
       base-leaves (a .args .f) (a .args .g)
           (a .args .records .now) (a .pre .0) (a .args .j) (m .result) h em,
     )
 
 returns-2 : tie.Need-returns-2
 returns-2 c =
-    let a = c .before .before .before .before in
-    let m = c .before .least in
+    let a = c .before .before .before .before .before in
+    let m = c .before .before .least in
     let em : m .result ≡ min (a .args .g) (pieces (length (a .args .records .now) / 16) (a .args .f) - a .args .g * a .args .j) =
     m .ensures ∙ ap (λ (x : ℕ). min (a .args .g) (x - a .args .g * a .args .j)) (a .pre .1) in
-    let h : a .args .g * a .args .j < pieces (length (a .args .records .now) / 16) (a .args .f) = omega (arith, a .pre .1, c .before .before .if1 .left) in
-    base-some (a .args .f) (a .args .g) (a .args .records .now) (a .pre .0) (a .args .j) (m .result) h em (c .entries-image .result) (c .entries-image .ensures)
+    let h : a .args .g * a .args .j < pieces (length (a .args .records .now) / 16) (a .args .f) = omega (arith, a .pre .1, c .before .before .before .if1 .left) in
+    base-some (a .args .f) (a .args .g) (a .args .records .now) (a .pre .0) (a .args .j) (m .result) h em (c .entries-image .result) (rw (c .before .place .ensures) at (c .entries-image .ensures))
 
 pub base-image-spec : {M : Type 1} → statement M
 base-image-spec =
@@ -64,7 +66,7 @@ base-image-spec =
     returns
     sub-least
     least-requires
-    cast-t10
-    add-t11
+    cast-place
+    place-requires
     entries-image-requires
     returns-2)

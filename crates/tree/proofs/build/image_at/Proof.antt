@@ -3,6 +3,7 @@ use Prim.Native.Nat.{ℕ, _-_, _/_}
 use mathlib.Core.Path.{_≡_, ap, _∙_}
 use lib.ListN.{length}
 use Rattle.field.specs.Bytes.{Bytes}
+use Rattle.page.specs.Page.{firstLeaf}
 use Rattle.tree.specs.Pieces.{pieces}
 use Rattle.tree.proofs.Laid.{records-few, root-leaves, root-page, base-page, leaf-begins, leaf-page-is, empty-page-is}
 use native.Mathlib.Omega.{arith}
@@ -35,6 +36,12 @@ returns c =
     let bytes : Bytes (a .args .records .now) = λ i. omega (arith, c .before .before .before .before .shared-slice-known .given i) in
     root-page (a .args .f) (a .args .g) (a .args .records .now) (a .pre .0) bytes (a .args .p) (c .entries-image .result) (c .before .before .if1 .taken) (rw eb at (c .entries-image .ensures))
 
+cast-if2 : tie.Need-cast-if2
+cast-if2 c = omega arith
+
+cast-base-image : tie.Need-cast-base-image
+cast-base-image c = omega arith
+
 sub-base-image : tie.Need-sub-base-image
 sub-base-image c = search needs
 
@@ -47,17 +54,17 @@ returns-2 c =
     let k = c .before .before .before .pieces in
     base-page (a .args .f) (a .args .g) (a .args .records .now) (a .pre .0) (a .args .p) (c .before .before .if1 .left) (c .base-image .result) (c .before .if2 .taken) (c .base-image .ensures)
 
-sub-if3 : tie.Need-sub-if3
-sub-if3 c = search needs
+cast-i : tie.Need-cast-i
+cast-i c = omega arith
 
-sub-leaf-image : tie.Need-sub-leaf-image
-sub-leaf-image c = search needs
+sub-i : tie.Need-sub-i
+sub-i c = search needs
 
 leaf-image-requires : tie.Need-leaf-image-requires
 leaf-image-requires c κs =
     let a = c .before .before .before .before .before in
     let k = c .before .before .before .pieces in
-    (a .pre .0 .leaf-least, a .pre .0 .leaf-most, leaf-begins (a .args .f) (a .args .g) (a .args .records .now) (a .pre .0) (a .args .p - 8) (omega (arith, k .ensures, c .if3 .taken)))
+    (a .pre .0 .leaf-least, a .pre .0 .leaf-most, leaf-begins (a .args .f) (a .args .g) (a .args .records .now) (a .pre .0) (a .args .p - firstLeaf) (omega (arith, k .ensures, c .if3 .taken)))
 
 returns-3 : tie.Need-returns-3
 returns-3 c =
@@ -84,11 +91,13 @@ image-at-spec =
     pieces-requires-2
     entries-image-requires
     returns
+    cast-if2
+    cast-base-image
     sub-base-image
     base-image-requires
     returns-2
-    sub-if3
-    sub-leaf-image
+    cast-i
+    sub-i
     leaf-image-requires
     returns-3
     blank-requires

@@ -3,7 +3,8 @@ use Prim.Native.Nat.{_≤_, _<_, _+_, _*_}
 use mathlib.Core.Path.{_≡_}
 use mathlib.Core.Bool.{true}
 use lib.ListN.{length, drop}
-use Rattle.page.specs.Page.{rowsOf, pointing}
+use Rattle.page.specs.Page.{rowsOf, firstBase, lastBase, toBases}
+use Rattle.page.specs.Places.{Basic}
 use Rattle.page.specs.Pages.{pages}
 use Rattle.tree.specs.Tree.{below}
 use Rattle.tree.specs.Walk.{Tallied, Roomy}
@@ -16,20 +17,20 @@ use Rattle.tree.proofs.well.tally_under.Tie as tie
 
 abbrev Inv-loop : tie.InvT-loop
 Inv-loop w pg n sum₀ at₀ left₀ sum at left =
-    (left ≤ n) × (at + 8 * left ≤ length pg) × (pointing 1 7 (rowsOf 8 left (drop at pg)) ≡ true) × Roomy sum (30 * left)
+    (left ≤ n) × (at + 8 * left ≤ length pg) × (toBases (rowsOf 8 left (drop at pg)) ≡ true) × Roomy sum (30 * left)
     × Tallied sum (below 8 (pages w) (rowsOf 8 left (drop at pg))) sum₀ (below 8 (pages w) (rowsOf 8 n (drop 16 pg)))
 
 abbrev μ-loop : tie.MeasureT-loop
 μ-loop w pg n sum₀ at₀ left₀ sum at left = left
 
 -- the page that the entry in front points to
-place : (c : tie.After-get2 Inv-loop μ-loop) → (1 ≤ c .get2 .result) × (c .get2 .result ≤ 7)
+place : (c : tie.After-get2 Inv-loop μ-loop) → Basic (c .get2 .result)
 place c =
     let l = c .before .before in
     let pg = l .before .before .before .args .pg .now in
     let more = c .before .loop-test .taken in (
-      omega (arith, c .get2 .ensures, point-low 1 7 (l .loop .left) (l .loop .at) pg (l .loop .inv .2) more),
-      omega (arith, c .get2 .ensures, point-high 1 7 (l .loop .left) (l .loop .at) pg (l .loop .inv .2) more),
+      omega (arith, c .get2 .ensures, point-low firstBase lastBase (l .loop .left) (l .loop .at) pg (l .loop .inv .2) more),
+      omega (arith, c .get2 .ensures, point-high firstBase lastBase (l .loop .left) (l .loop .at) pg (l .loop .inv .2) more),
     )
 
 loop-holds : tie.Need-loop-holds Inv-loop μ-loop
@@ -96,7 +97,7 @@ loop-again c =
     let more = g .before .loop-test .taken in (
       omega arith,
       omega arith,
-      point-behind 1 7 (l .loop .left) (l .loop .at) (a .args .pg .now) (l .loop .inv .2) more,
+      point-behind firstBase lastBase (l .loop .left) (l .loop .at) (a .args .pg .now) (l .loop .inv .2) more,
       roomy-under w (l .loop .left) (l .loop .at) (a .args .pg .now) (l .loop .sum) (c .tally .result) q m (g .get2 .ensures) (c .before .count-at .ensures) more small
           (c .tally .ensures) few (l .loop .inv .3),
       under-more w (l .loop .left) (l .loop .at) (a .args .pg .now) (l .loop .sum) (c .tally .result) q m (g .get2 .ensures) (c .before .count-at .ensures) more small

@@ -1,8 +1,8 @@
 -- `unit::compact::choose_compact` meets its contract. Assumes nothing.
-use Prim.Native.Nat.{_<_}
 use Rattle.field.specs.Test.{when}
 use Rattle.tree.specs.Walk.{Over}
-use Rattle.unit.proofs.Roots.{Roots, roots-all, roots-behind, roots-over, roots-room, roots-leaves, top-small, Still, still-all, still-end, still-stop, still-more}
+use Rattle.unit.specs.Chosen.{Low}
+use Rattle.unit.proofs.Roots.{Roots, roots-all, roots-behind, roots-over, roots-room, roots-leaves, top-low, Still, still-all, still-end, still-stop, still-more}
 use borrow.Author.Needs.{needs}
 use native.Mathlib.Omega.{arith}
 use Rattle.unit.proofs.compact.choose_compact.Statement.{statement}
@@ -10,7 +10,7 @@ use Rattle.unit.proofs.compact.choose_compact.Tie as tie
 
 abbrev Inv-loop : tie.InvT-loop
 Inv-loop w fill there lk most low₀ at₀ left₀ low at left =
-    (low .0 < 64) × Roots w at left × Still w fill (when there lk) most (low .0) at left
+    Low (low .0) × Roots w at left × Still w fill (when there lk) most (low .0) at left
 
 abbrev μ-loop : tie.MeasureT-loop
 μ-loop w fill there lk most low₀ at₀ left₀ low at left = left
@@ -29,7 +29,7 @@ loop-holds : tie.Need-loop-holds Inv-loop μ-loop
 loop-holds c =
     let a = c .before .before .before in
     let r = roots-all (a .args .w .now) (c .count-at .result) (a .pre .0) (a .pre .1) (c .count-at .ensures) in
-    (omega arith, r, still-all _ _ _ _ _ r (c .count-at .ensures) (c .before .fill-of .ensures .0))
+    ((omega arith, omega arith), r, still-all _ _ _ _ _ r (c .count-at .ensures) (c .before .fill-of .ensures .0))
 
 add-get2 : tie.Need-add-get2 Inv-loop μ-loop
 add-get2 c = omega arith
@@ -62,7 +62,7 @@ part-compact-in-end : tie.Need-part-compact-in-end Inv-loop μ-loop
 part-compact-in-end c = omega (arith, over (c .before .before .before) .base .inside)
 
 compact-in-requires : tie.Need-compact-in-requires Inv-loop μ-loop
-compact-in-requires c κs = ((search, search roots-room, omega arith, omega arith), search roots-leaves)
+compact-in-requires c κs = ((search, search, search roots-room, omega arith), search roots-leaves)
 
 returns : tie.Need-returns Inv-loop μ-loop
 returns c =
@@ -100,7 +100,7 @@ loop-again c =
     let e = c .before .before in
     let a = e .before .before .before .before in
     let l = a .before .before .before .before in (
-      top-small (l .before .before .before .before .args .w .now) _ _ _ (c .top-of .ensures) (search roots-leaves) (l .loop .inv .0),
+      top-low (l .before .before .before .before .args .w .now) _ _ _ (c .top-of .ensures) (search roots-leaves) (l .loop .inv .0),
       search roots-behind,
       still-more _ _ _ _ _ _ _ (l .loop .inv .2) (l .loop .inv .1) (a .before .before .before .loop-test .taken) _ _ (a .before .before .get2 .ensures) (a .count-at2 .ensures) _
           (e .before .compact-in .ensures) (e .if1 .left) _ (c .top-of .ensures),

@@ -6,7 +6,8 @@ use Rattle.page.specs.Page.{rowsOf}
 use Rattle.page.specs.Each.{Each}
 use Rattle.tree.specs.Walk.{Spot, Below}
 use Rattle.tree.proofs.Turn.{spot-here, each-behind}
-use Rattle.unit.proofs.Chooses.{Yet, yet-all, yet-end!, yet-stop!, yet-more!, each-seven, seven-small, larger-small}
+use Rattle.unit.specs.Chosen.{Low}
+use Rattle.unit.proofs.Chooses.{Yet, yet-all, yet-end!, yet-stop!, yet-more!, each-seven, seven-small, larger-low}
 use borrow.Author.Needs.{needs}
 use native.Mathlib.Omega.{arith}
 use Rattle.unit.proofs.compact.compact_in.Statement.{statement}
@@ -14,7 +15,7 @@ use Rattle.unit.proofs.compact.compact_in.Tie as tie
 
 abbrev Inv-loop : tie.InvT-loop
 Inv-loop w pg n b fill there lk from at₀ left₀ low at left =
-    (left ≤ n) × (at + 8 * left ≤ length pg) × (low .0 < 64) × Each (Below 16 w) (rowsOf 8 left (drop at pg))
+    (left ≤ n) × (at + 8 * left ≤ length pg) × Low (low .0) × Each (Below 16 w) (rowsOf 8 left (drop at pg))
     × Yet w fill (when there lk) (b .0) pg (from .0) n (low .0) at left
 
 abbrev μ-loop : tie.MeasureT-loop
@@ -29,7 +30,7 @@ few : (c : tie.After-seven Inv-loop μ-loop) → (c .seven .result ≤ 7) × (c 
 few c = seven-small _ _ (c .seven .ensures)
 
 loop-holds : tie.Need-loop-holds Inv-loop μ-loop
-loop-holds c = (omega arith, omega arith, omega arith, c .before .before .pre .1, yet-all _ _ _ _ _ _ _)
+loop-holds c = (omega arith, omega arith, c .before .before .pre .0 .1, c .before .before .pre .1, yet-all _ _ _ _ _ _ _)
 
 add-get2 : tie.Need-add-get2 Inv-loop μ-loop
 add-get2 c = omega arith
@@ -72,7 +73,7 @@ compacting-requires c κs =
     let g = c .before .before .before .before .before in
     let s = spot (g .before) in
     let k = few g in
-    ((search, omega arith, s .inside, omega arith), (omega (arith, c .before .before .joining .ensures .1), omega (arith, c .before .before .joining .ensures .1)))
+    ((search, g .before .before .before .loop .inv .2, s .inside, omega arith), (omega (arith, c .before .before .joining .ensures .1), omega (arith, c .before .before .joining .ensures .1)))
 
 returns : tie.Need-returns Inv-loop μ-loop
 returns c =
@@ -103,7 +104,7 @@ loop-again c =
     let l = g .before .before in (
       omega arith,
       omega arith,
-      larger-small _ _ _ (c .larger .ensures) (l .loop .inv .2) (spot g .inside),
+      larger-low _ _ _ (c .larger .ensures) (l .loop .inv .2) (spot g .inside),
       search each-behind,
       yet-more! _ _ _ _ _ _ _ _ _ _ (l .loop .inv .4) _ _ _ _ _ (g .get2 .ensures) (z .before .before .count-at .ensures) (k .seven .ensures) (z .before .joining .ensures .0)
           (z .before .joining .ensures .1) (z .begins .ensures) (spot g .inside) (g .before .loop-test .taken) _ (c .larger .ensures) (c .before .if1 .left),

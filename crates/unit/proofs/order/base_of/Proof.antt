@@ -1,9 +1,9 @@
 -- `unit::order::base_of` meets its contract. Assumes nothing.
-use Prim.Native.Nat.{_≤_}
 use mathlib.Core.Path.{_≡_, ap}
 use lib.ListN.{drop}
 use Rattle.page.specs.Page.{rowsOf}
 use Rattle.page.specs.Pages.{pages}
+use Rattle.page.specs.Places.{Basic}
 use Rattle.tree.specs.Tree.{leavesOf, leavesBelow}
 use Rattle.unit.specs.Choice.{baseOf}
 use Rattle.unit.proofs.Walk.{Ahead, ahead-all, ahead-behind, ahead-base, base-room}
@@ -20,7 +20,7 @@ abbrev μ-loop : tie.MeasureT-loop
 μ-loop w p at₀ left₀ at left = left
 
 -- the base page below the entry in front
-here : (c : tie.After-get2 Inv-loop μ-loop) → (1 ≤ c .get2 .result) × (c .get2 .result ≤ 7)
+here : (c : tie.After-get2 Inv-loop μ-loop) → Basic (c .get2 .result)
 here c =
     let l = c .before .before in
     ahead-base (l .before .before .before .args .w .now) (l .loop .at) (l .loop .left) (l .loop .inv .0) (c .before .loop-test .taken) (c .get2 .result) (c .get2 .ensures)

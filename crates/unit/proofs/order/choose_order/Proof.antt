@@ -1,5 +1,5 @@
 -- `unit::order::choose_order` meets its contract. Assumes nothing.
-use Rattle.unit.proofs.Ordered.{want-small, order-none!, order-move!, order-swap! }
+use Rattle.unit.proofs.Ordered.{want-leafy, order-none!, order-move!, order-swap! }
 use borrow.Author.Needs.{needs}
 use Rattle.unit.proofs.order.choose_order.Statement.{statement}
 use Rattle.unit.proofs.order.choose_order.Tie as tie
@@ -22,7 +22,7 @@ returns c =
     order-none! (a .before .before .args .w .now) (a .stray-leaf .result) (a .stray-leaf .ensures) (c .nothing .result) (search) (c .nothing .ensures)
 
 empty-at-requires : tie.Need-empty-at-requires
-empty-at-requires c κs = (search needs, search want-small)
+empty-at-requires c κs = (search needs, search want-leafy)
 
 moving-requires : tie.Need-moving-requires
 moving-requires c κs = search needs
@@ -33,7 +33,7 @@ returns-2 c =
     let k = m .before .before in
     let a = k .before .before in
     order-move! (a .before .before .args .w .now) (a .stray-leaf .result) (a .stray-leaf .ensures) (c .moving .result) _ _ _ (k .want .given .1) (m .empty-at .result)
-    (m .empty-at .ensures) (search want-small) (c .before .if1 .taken) (c .moving .ensures)
+    (m .empty-at .ensures) (search want-leafy) (c .before .if1 .taken) (c .moving .ensures)
 
 base-of-requires : tie.Need-base-of-requires
 base-of-requires c κs = search needs
@@ -47,7 +47,7 @@ returns-3 c =
     let k = m .before .before in
     let a = k .before .before in
     order-swap! (a .before .before .args .w .now) (a .stray-leaf .result) (a .stray-leaf .ensures) (c .swapping .result) _ _ _ (k .want .given .1) (m .empty-at .result)
-    (m .empty-at .ensures) (search want-small) (c .before .base-of .result .0) (c .before .base-of .ensures) (c .before .before .if1 .left) (c .swapping .ensures)
+    (m .empty-at .ensures) (search want-leafy) (c .before .base-of .result .0) (c .before .base-of .ensures) (c .before .before .if1 .left) (c .swapping .ensures)
 
 pub choose-order-spec : {M : Type 1} → statement M
 choose-order-spec =

@@ -4,6 +4,7 @@ use mathlib.Core.Path.{_≡_, ap}
 use lib.ListN.{drop}
 use Rattle.page.specs.Page.{rowsOf}
 use Rattle.page.specs.Pages.{pages}
+use Rattle.page.specs.Places.{Basic}
 use Rattle.tree.specs.Tree.{leavesOf, leavesBelow}
 use Rattle.unit.specs.Chosen.{stray}
 use Rattle.unit.proofs.Walk.{Ahead, ahead-all, ahead-behind, ahead-base, base-count, base-room}
@@ -21,7 +22,7 @@ abbrev μ-loop : tie.MeasureT-loop
 μ-loop w i₀ at₀ left₀ i at left = left
 
 -- the base page below the entry in front
-here : (c : tie.After-get2 Inv-loop μ-loop) → (1 ≤ c .get2 .result) × (c .get2 .result ≤ 7)
+here : (c : tie.After-get2 Inv-loop μ-loop) → Basic (c .get2 .result)
 here c =
     let l = c .before .before in
     ahead-base (l .before .before .before .args .w .now) (l .loop .at) (l .loop .left) (l .loop .inv .0) (c .before .loop-test .taken) (c .get2 .result) (c .get2 .ensures)

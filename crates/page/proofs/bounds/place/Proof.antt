@@ -1,8 +1,8 @@
--- `unit::order::place` meets its contract. Assumes nothing.
+-- `page::bounds::place` meets its contract. Assumes nothing.
 use borrow.Author.Needs.{needs}
-use Rattle.unit.specs.Choice.{place}
-use Rattle.unit.proofs.order.place.Statement.{statement}
-use Rattle.unit.proofs.order.place.Tie as tie
+use Rattle.page.specs.Places.{place}
+use Rattle.page.proofs.bounds.place.Statement.{statement}
+use Rattle.page.proofs.bounds.place.Tie as tie
 
 add-t2 : tie.Need-add-t2
 add-t2 c = search needs

@@ -22,9 +22,9 @@ use Rattle.recovering.proofs.recover as recover
 use Rattle.beginning.proofs.begin_compact as begin-compact
 use Rattle.beginning.proofs.begin_order as begin-order
 use Rattle.stepping.proofs.step as step
-use Rattle.keeping.proofs.flush as flush
-use Rattle.keeping.proofs.force as force
-use Rattle.keeping.proofs.checkpoint as checkpoint
+use Rattle.flushing.proofs.flush as flush
+use Rattle.forcing.proofs.force as force
+use Rattle.checkpointing.proofs.checkpoint as checkpoint
 use Rattle.answering.proofs.find as find
 use Rattle.answering.proofs.list as list
 use Rattle.promise.specs.Fixed.{Result, replied, recovered, found, listed}

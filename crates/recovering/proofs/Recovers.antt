@@ -261,7 +261,7 @@ module _ (used forced : ℕ) (work store log : List ℕ) where
     whole : threeSized given ≡ true
     whole = sized (t .work-sized) (t .store-sized) (t .log-sized) x (t .scans)
 
-    found-log : Was log (x .walk)
+    abbrev found-log : Was log (x .walk)
     found-log = read (t .work-sized) (t .store-sized) (t .log-sized) x (t .scans) (t .ok)
 
     none-newer : noneNewer (atEnd (found-log .log) .number) (pages store) ≡ true

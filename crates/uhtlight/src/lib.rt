@@ -99,7 +99,7 @@ pub extern "C" fn uhtlight_flush(
     ensures flushed { λ r. ⌜ left r [] (lent (now (n .exit) .used) (now (n .exit) .forced) (now (work .entry)) (now (store .exit)) (now (log .entry)) [])
         ≡ flush p (lent (now (n .entry) .used) (now (n .entry) .forced) (now (work .entry)) (now (store .entry)) (now (log .entry)) []) ⌝ }
 {
-    let a = keeping::flush(*n, work, store, log, p);
+    let a = flushing::flush(*n, work, store, log, p);
     *n = a.numbers;
     a.reply
 }
@@ -110,7 +110,7 @@ pub extern "C" fn uhtlight_force(n: &mut Numbers, log: &[u8]) -> u8
     ensures forced { λ r. ⌜ left r [] (lent (now (n .exit) .used) (now (n .exit) .forced) [] [] (now (log .entry)) [])
         ≡ force (lent (now (n .entry) .used) (now (n .entry) .forced) [] [] (now (log .entry)) []) ⌝ }
 {
-    let a = keeping::force(*n, log);
+    let a = forcing::force(*n, log);
     *n = a.numbers;
     a.reply
 }
@@ -127,7 +127,7 @@ pub extern "C" fn uhtlight_checkpoint(
     ensures replaced { λ r. ⌜ left r [] (lent (now (n .exit) .used) (now (n .exit) .forced) (now (work .entry)) (now (store .entry)) (now (log .exit)) [])
         ≡ checkpoint clear (lent (now (n .entry) .used) (now (n .entry) .forced) (now (work .entry)) (now (store .entry)) (now (log .entry)) []) ⌝ }
 {
-    let a = keeping::checkpoint(*n, work, store, log, clear);
+    let a = checkpointing::checkpoint(*n, work, store, log, clear);
     *n = a.numbers;
     a.reply
 }

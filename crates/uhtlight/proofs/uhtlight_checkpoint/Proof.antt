@@ -27,9 +27,9 @@ use Rattle.walks.proofs.Meeting.{ownsBeside, LastBeside, saysBeside, asks-nothi
 use Rattle.walks.proofs.Beside.{lentMut, lentShared, truth}
 use Rattle.store.proofs.known.Numbers as N
 use Rattle.store.proofs.known.Numbers.Laws as N′
-use Rattle.keeping.proofs.checkpoint as core
-use Rattle.keeping.proofs.checkpoint.Symbol as core-def
-use Rattle.keeping.proofs.checkpoint.Met as core-thm
+use Rattle.checkpointing.proofs.checkpoint as core
+use Rattle.checkpointing.proofs.checkpoint.Symbol as core-def
+use Rattle.checkpointing.proofs.checkpoint.Met as core-thm
 use Rattle.uhtlight.proofs.Outer.{outer-runs}
 use Rattle.uhtlight.proofs.OfReply.{ofReply}
 use Rattle.uhtlight.proofs.uhtlight_checkpoint as f
@@ -69,5 +69,5 @@ uhtlight-checkpoint-spec 𝓤 H 𝓜 𝓖 𝓡 =
         (shr-slice-tells (named 2) (κs .1 .1 .0) u8, (mut-slice-tells (named 3) (κs .1 .1 .1 .0) u8, (bool-tells, tt))),
       ),
     ))
-    core-def.name core-def.routine code.calls-keeping·checkpoint core.signature (core.spec 𝓤 H (𝓖 .A) (𝓜 .mem) (𝓡 .run)) (core-thm.met 𝓤 H 𝓜 𝓖 𝓡)
+    core-def.name core-def.routine code.calls-checkpointing·checkpoint core.signature (core.spec 𝓤 H (𝓖 .A) (𝓜 .mem) (𝓡 .run)) (core-thm.met 𝓤 H 𝓜 𝓖 𝓡)
     (walk 𝓤 H (𝓖 .A) (givenOf 𝓤 H 𝓜 𝓖) (𝓜 .mem) (𝓡 .run))

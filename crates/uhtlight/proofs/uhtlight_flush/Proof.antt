@@ -27,9 +27,9 @@ use Rattle.walks.proofs.Meeting.{ownsBeside, LastBeside, saysBeside, asks-nothi
 use Rattle.walks.proofs.Beside.{lentMut, lentShared, number}
 use Rattle.store.proofs.known.Numbers as N
 use Rattle.store.proofs.known.Numbers.Laws as N′
-use Rattle.keeping.proofs.flush as core
-use Rattle.keeping.proofs.flush.Symbol as core-def
-use Rattle.keeping.proofs.flush.Met as core-thm
+use Rattle.flushing.proofs.flush as core
+use Rattle.flushing.proofs.flush.Symbol as core-def
+use Rattle.flushing.proofs.flush.Met as core-thm
 use Rattle.uhtlight.proofs.Outer.{outer-runs}
 use Rattle.uhtlight.proofs.OfReply.{ofReply}
 use Rattle.uhtlight.proofs.uhtlight_flush as f
@@ -69,5 +69,5 @@ uhtlight-flush-spec 𝓤 H 𝓜 𝓖 𝓡 =
         (mut-slice-tells (named 2) (κs .1 .1 .0) u8, (shr-slice-tells (named 3) (κs .1 .1 .1 .0) u8, (uint-tells w32, tt))),
       ),
     ))
-    core-def.name core-def.routine code.calls-keeping·flush core.signature (core.spec 𝓤 H (𝓖 .A) (𝓜 .mem) (𝓡 .run)) (core-thm.met 𝓤 H 𝓜 𝓖 𝓡)
+    core-def.name core-def.routine code.calls-flushing·flush core.signature (core.spec 𝓤 H (𝓖 .A) (𝓜 .mem) (𝓡 .run)) (core-thm.met 𝓤 H 𝓜 𝓖 𝓡)
     (walk 𝓤 H (𝓖 .A) (givenOf 𝓤 H 𝓜 𝓖) (𝓜 .mem) (𝓡 .run))

@@ -26,9 +26,9 @@ use Rattle.walks.proofs.Meeting.{ownsBeside, LastBeside, saysBeside, asks-nothi
 use Rattle.walks.proofs.Beside.{lentShared}
 use Rattle.store.proofs.known.Numbers as N
 use Rattle.store.proofs.known.Numbers.Laws as N′
-use Rattle.keeping.proofs.force as core
-use Rattle.keeping.proofs.force.Symbol as core-def
-use Rattle.keeping.proofs.force.Met as core-thm
+use Rattle.forcing.proofs.force as core
+use Rattle.forcing.proofs.force.Symbol as core-def
+use Rattle.forcing.proofs.force.Met as core-thm
 use Rattle.uhtlight.proofs.Outer.{outer-runs}
 use Rattle.uhtlight.proofs.OfReply.{ofReply}
 use Rattle.uhtlight.proofs.uhtlight_force as f
@@ -61,5 +61,5 @@ unfolding code.routine
 uhtlight-force-spec 𝓤 H 𝓜 𝓖 𝓡 =
     met-over 𝓤 H 𝓜 𝓖 𝓡 f.signature (f.spec 𝓤 H (𝓖 .A) (𝓜 .mem) (𝓡 .run)) code.env key.name code.function (code.unfolded 𝓤 H 𝓜 𝓡) spelled
     (λ κs. (mut-tells (named 0) (κs .0) N.the-row, (shr-slice-tells (named 1) (κs .1 .0) u8, tt)))
-    core-def.name core-def.routine code.calls-keeping·force core.signature (core.spec 𝓤 H (𝓖 .A) (𝓜 .mem) (𝓡 .run)) (core-thm.met 𝓤 H 𝓜 𝓖 𝓡)
+    core-def.name core-def.routine code.calls-forcing·force core.signature (core.spec 𝓤 H (𝓖 .A) (𝓜 .mem) (𝓡 .run)) (core-thm.met 𝓤 H 𝓜 𝓖 𝓡)
     (walk 𝓤 H (𝓖 .A) (givenOf 𝓤 H 𝓜 𝓖) (𝓜 .mem) (𝓡 .run))

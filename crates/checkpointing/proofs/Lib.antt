@@ -1,0 +1,3 @@
+-- Laws about each way through checkpoint's tests.
+pub mod Replaces
+pub mod Ways

@@ -1,4 +1,0 @@
--- Laws about each way through the calls' tests.
-pub mod Flushes
-pub mod Replaces
-pub mod Writing

@@ -1,5 +1,5 @@
--- What is known of tidy pages: the regions of their entries, at most 15 records on a leaf, no more leaves than leaf pages; and that a unit which runs over
--- their tree keeps them tidy. Assumes nothing.
+-- What is known of tidy pages: the regions of their entries, at most 15 records on a leaf, no more leaves than leaf pages; and that a unit
+-- which runs over their tree keeps them tidy. Assumes nothing.
 use Prim.Native.Nat.{ℕ, zero, suc, _+_, _≤_, _<_}
 use native.Mathlib.Omega.{arith}
 use mathlib.Core.Path.{_≡_, refl, sym, ap, ap₂, _∙_, subst}

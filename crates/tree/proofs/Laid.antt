@@ -217,7 +217,9 @@ module _ (f g : ℕ) (records : List ℕ) (b : Buildable f g (length records)) (
 
   -- all pages, as a list
   sheets : List (List ℕ)
-  sheets = fresh root (entriesTo basePlace 0 bs) ∷ ((map (fresh base) bs ++ replicate (basePages - length bs) (fresh empty [])) ++ (map (fresh leaf) ls ++ replicate (leafPages - length ls) (fresh empty [])))
+  sheets =
+      fresh root (entriesTo basePlace 0 bs)
+      ∷ ((map (fresh base) bs ++ replicate (basePages - length bs) (fresh empty [])) ++ (map (fresh leaf) ls ++ replicate (leafPages - length ls) (fresh empty [])))
 
   layout-joined : layout f g rows′ ≡ joined sheets
   unfolding layout filled sheets

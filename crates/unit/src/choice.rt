@@ -1,6 +1,6 @@
 // A chosen unit by value: all that its begin record says but its number.
 ghost use mathlib.Core.Path.{_≡_};
-ghost use Prim.Native.Nat.{_+_, _*_, _<_};
+ghost use Prim.Native.Nat.{_+_, _*_};
 ghost use mathlib.Core.Option.{none, some};
 ghost use Rattle.page.specs.Pages.{page};
 ghost use Rattle.page.specs.Places.{Leafy, emptyLeaf};

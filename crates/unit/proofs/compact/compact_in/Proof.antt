@@ -1,5 +1,5 @@
 -- `unit::compact::compact_in` meets its contract. Assumes nothing.
-use Prim.Native.Nat.{_≤_, _<_, _+_, _-_, _*_}
+use Prim.Native.Nat.{_≤_, _+_, _-_, _*_}
 use lib.ListN.{length, drop}
 use Rattle.field.specs.Test.{when}
 use Rattle.page.specs.Page.{rowsOf}

@@ -13,9 +13,8 @@ use borrow.Author.Tests.{le-leb}
 use Rattle.field.specs.Test.{pick, bind}
 use Rattle.field.specs.Bytes.{Bytes, most4}
 use Rattle.field.proofs.Test.{both-intro, bind-intro, when-true}
-use Rattle.page.specs.Page.{isEmpty}
 use Rattle.page.specs.Pages.{pages}
-use Rattle.page.specs.Places.{place}
+use Rattle.page.specs.Places.{emptyLeaf, place}
 use Rattle.page.proofs.Pages.{formed-pages}
 use Rattle.log.specs.Record.{Check, Begin, Rec, LB, size}
 use Rattle.log.specs.Plan.{Step, close, plan}
@@ -135,7 +134,7 @@ choose-unit u fill low lk ps (c ∷ next) g e =
 
 put-unit : (u wanted : ℕ) (ps : List (List ℕ)) (ls : List Leaf) (l : Leaf) → putInOrder u wanted ps ls l .unit ≡ u
 unfolding putInOrder moveOf swapOf
-put-unit u wanted ps ls l = by-pick (isEmpty (getD ps wanted []))
+put-unit u wanted ps ls l = by-pick (emptyLeaf wanted (getD ps wanted []))
   where
     by-pick : (b : Bool) → pick b (moveOf u l wanted) (swapOf u l wanted (baseOf wanted ls)) .unit ≡ u
     by-pick true = unfold pick moveOf in refl

@@ -6,10 +6,11 @@ use mathlib.Core.Logic.{_⊎_, inl, inr, ⊎-elim}
 use mathlib.Core.List.{List, [], _∷_}
 use lib.ListN.{length}
 use Rattle.page.specs.Pages.{page}
+use Rattle.page.specs.Places.{Leafy}
 use Rattle.log.specs.Record.{Rec, LE, kindOf, carried, size}
 use Rattle.log.specs.Plan.{Step, takeOut, bringIn, point, close}
 use Rattle.unit.specs.Next.{targets, targetOf, pageOf, nextRec, stepSize}
-use Rattle.unit.proofs.Places.{Leafy, StepKeeps, Keeping, one-more}
+use Rattle.unit.proofs.Places.{StepKeeps, Keeping, one-more}
 use Rattle.unit.proofs.Pagewise.{apply-stays}
 use Rattle.tidy.specs.Tidy.{Carried}
 use Rattle.tidy.proofs.Model.{State}

@@ -12,11 +12,12 @@ use lib.ListN.{length}
 use Rattle.field.specs.Bytes.{Bytes}
 use Rattle.page.specs.Page.{base, leaf, entries, records, formed}
 use Rattle.page.specs.Pages.{page, putPage}
+use Rattle.page.specs.Places.{Leafy, Basic}
 use Rattle.log.specs.Record.{Rec, carried, size}
 use Rattle.log.specs.Plan.{Step, takeOut, bringIn, point, close}
 use Rattle.log.specs.Valid.{Moved}
 use Rattle.unit.specs.Next.{apply, targetOf, pageOf, nextRec, stepSize, room}
-use Rattle.unit.proofs.Places.{Leafy, Basic, Keeping, no-step, one-more}
+use Rattle.unit.proofs.Places.{Keeping, no-step, one-more}
 use Rattle.tidy.specs.Tidy.{Sound, InForm}
 use Rattle.tidy.proofs.Model.{Entry, upd, State, state}
 use Rattle.tidy.proofs.Entries.{ents}

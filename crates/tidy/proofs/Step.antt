@@ -17,6 +17,7 @@ use Rattle.field.proofs.Same.{eq-same}
 use Rattle.page.specs.Page.{joined, keyOf, ascend, ascendRecords, spare, made, base, leaf, empty, entries, records, shaped, isBase, isLeaf, isEmpty}
 use Rattle.page.specs.Change.{above, emptied, appended, has, pointTo, without, redirected, removed}
 use Rattle.page.specs.Pages.{page, putPage}
+use Rattle.page.specs.Places.{Leafy, Basic}
 use Rattle.page.specs.Each.{Each}
 use Rattle.page.proofs.Rows.{each-append}
 use Rattle.page.proofs.Order.{First, ascend-facts, ascend-of, ascend-append}
@@ -29,7 +30,6 @@ use Rattle.log.specs.Plan.{Step, takeOut, bringIn, point}
 use Rattle.log.specs.Log.{taken}
 use Rattle.log.specs.Valid.{Moved}
 use Rattle.unit.specs.Next.{targets, change, targetOf, pageOf, skipped, lowestTo, nextRec, stepSize, room}
-use Rattle.unit.proofs.Places.{Leafy, Basic}
 use Rattle.unit.proofs.Pagewise.{applies}
 use Rattle.page.proofs.Region.{empty-formed, leaf-formed, base-formed}
 use Rattle.tidy.proofs.Model.{Entry, Ascends, full, upd, redirect, strip, lowest, state}

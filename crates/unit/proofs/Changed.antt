@@ -13,7 +13,8 @@ use borrow.Author.Tests.{eq-eqb, ne-eqb}
 use Rattle.field.specs.Test.{pick}
 use Rattle.field.specs.Bytes.{Bytes}
 use Rattle.field.proofs.Test.{pick-true, pick-false}
-use Rattle.page.specs.Page.{number, base, leaf, empty, isBase, isLeaf, isEmpty, formed}
+use Rattle.page.specs.Page.{number, base, leaf, empty, firstLeaf, isBase, isLeaf, isEmpty, formed}
+use Rattle.page.specs.Places.{Leafy, Basic}
 use Rattle.page.specs.Change.{redirected, removed}
 use Rattle.page.proofs.Kept.{Changed, emptied-kept, appended-kept, redirected-kept, removed-kept, bytes-emptied, bytes-appended, bytes-redirected, bytes-removed}
 use Rattle.page.proofs.Region.{empty-formed, base-formed, leaf-formed}
@@ -21,7 +22,7 @@ use Rattle.log.specs.Record.{Rec, LB, LO, LI, LM, LE}
 use Rattle.log.specs.Log.{listed}
 use Rattle.log.specs.Valid.{Moved}
 use Rattle.unit.specs.Next.{targets, change, changeAgain, apply, repeat}
-use Rattle.unit.proofs.Places.{Leafy, Basic, RecKeeps}
+use Rattle.unit.proofs.Places.{RecKeeps}
 use Rattle.unit.proofs.Pagewise.{listed-none, listed-one, Once, once-one, changed-bytes, again-cases}
 
 -- the rows of an LI are those that an LO took out
@@ -43,7 +44,7 @@ empty-left : (n p : ℕ) (pg : List ℕ) → 1 ≤ p → Changed empty n [] pg �
 unfolding isEmpty
 empty-left n p pg h c = record { form = empty-formed p pg h (c .form); stamp = c .stamped; whole = c .whole }
 
-leaf-left : (n p : ℕ) (rs : List (List ℕ)) (pg : List ℕ) → 8 ≤ p → Changed leaf n rs pg → Leaves n p pg
+leaf-left : (n p : ℕ) (rs : List (List ℕ)) (pg : List ℕ) → firstLeaf ≤ p → Changed leaf n rs pg → Leaves n p pg
 unfolding isLeaf
 leaf-left n p rs pg h c = record { form = leaf-formed p pg h (c .form); stamp = c .stamped; whole = c .whole }
 

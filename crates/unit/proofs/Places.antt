@@ -12,19 +12,14 @@ use lib.Dec.{eqb}
 use borrow.Author.Tests.{eqb-true, leb-true}
 use Rattle.field.specs.Test.{both, pick, bind}
 use Rattle.field.proofs.Test.{both-2, all-head, all-tail}
+use Rattle.page.specs.Page.{firstBase, lastBase, firstLeaf, lastLeaf}
+use Rattle.page.specs.Places.{Leafy, Basic}
 use Rattle.log.specs.Record.{Begin, Rec, LB, LO, LI, LM, LE}
 use Rattle.log.specs.Plan.{Step, takeOut, bringIn, point, close, gather, removals, others, replacing, compactPlan, movePlan, swapPlan, plan}
-use Rattle.log.specs.Log.{Open, State, first, going, openedBy, after, afterAll, within, compactOk, swapOk, moveOk, typeOk, beginOk, Log, atEnd}
+use Rattle.log.specs.Log.{Open, State, first, going, openedBy, after, afterAll, within, onBases, onLeaves, compactOk, swapOk, moveOk, typeOk, beginOk, Log, atEnd}
 use Rattle.log.proofs.Begin.{within-head, within-tail}
 use Rattle.log.specs.Valid.{Does, does-out, does-in, does-point, does-close, Follows, begins, goes, Valid, nil, cons, Good}
 use Rattle.log.proofs.State.{Every}
-
--- a leaf page, a base page
-abbrev pub Leafy : ℕ → Type 0
-Leafy p = (8 ≤ p) × (p ≤ 63)
-
-abbrev pub Basic : ℕ → Type 0
-Basic p = (1 ≤ p) × (p ≤ 7)
 
 -- where a step, and where a record changes a page
 abbrev pub StepKeeps : Step → Type 0
@@ -59,12 +54,12 @@ point-keeps base old new other b d = (b, d)
 
 -- ---- the steps of a begin record
 
-gather-keeps : (dest : ℕ) (ps : List ℕ) → Leafy dest → within 8 63 ps ≡ true → Keeping (gather dest ps)
+gather-keeps : (dest : ℕ) (ps : List ℕ) → Leafy dest → onLeaves ps ≡ true → Keeping (gather dest ps)
 unfolding gather
 gather-keeps dest [] d e = no-step
 gather-keeps dest (p ∷ ps) d e =
-    let rest = gather-keeps dest ps d (within-tail 8 63 p ps e) in
-    keeping-pick (eqb p dest) _ _ rest (one-more (within-head 8 63 p ps e) (one-more d rest))
+    let rest = gather-keeps dest ps d (within-tail firstLeaf lastLeaf p ps e) in
+    keeping-pick (eqb p dest) _ _ rest (one-more (within-head firstLeaf lastLeaf p ps e) (one-more d rest))
 
 removals-keeps : (base : ℕ) (ps : List ℕ) → Basic base → Keeping (removals base ps)
 unfolding removals
@@ -75,7 +70,7 @@ replacing-keeps : (base c dest : ℕ) → Basic base → Leafy dest → Keeping 
 unfolding replacing
 replacing-keeps base c dest b d = keeping-pick (eqb c dest) _ _ no-step (one-more (point-keeps base c dest false b (inr d)) no-step)
 
-compact-keeps : (base dest : ℕ) (ls : List ℕ) → Basic base → Leafy dest → within 8 63 ls ≡ true → Keeping (compactPlan base dest ls)
+compact-keeps : (base dest : ℕ) (ls : List ℕ) → Basic base → Leafy dest → onLeaves ls ≡ true → Keeping (compactPlan base dest ls)
 unfolding compactPlan
 compact-keeps base dest ls b d e =
     keeping-append (gather-keeps dest ls d e) (keeping-append (replacing-keeps base (getD ls 0 0) dest b d) (removals-keeps base (others ls) b))
@@ -97,28 +92,28 @@ within-at from to [] i d e h = absurd (omega arith)
 
 -- ---- every step of a begin record in form
 
-module _ (g : Begin) (bs : within 1 7 (g .bases) ≡ true) (ls : within 8 63 (g .leaves) ≡ true) where
+module _ (g : Begin) (bs : onBases (g .bases) ≡ true) (ls : onLeaves (g .leaves) ≡ true) where
   base-first : 1 ≤ length (g .bases) → Basic (getD (g .bases) 0 0)
-  base-first h = within-at 1 7 (g .bases) 0 0 bs h
+  base-first h = within-at firstBase lastBase (g .bases) 0 0 bs h
 
   -- the second base page, or the first where there is one only
   base-second : 1 ≤ length (g .bases) → Basic (getD (g .bases) 1 (getD (g .bases) 0 0))
   base-second h = two (g .bases) bs h
     where
-      two : (ps : List ℕ) → within 1 7 ps ≡ true → 1 ≤ length ps → Basic (getD ps 1 (getD ps 0 0))
+      two : (ps : List ℕ) → onBases ps ≡ true → 1 ≤ length ps → Basic (getD ps 1 (getD ps 0 0))
       two [] e k = absurd (omega arith)
-      two (p ∷ []) e k = within-head 1 7 p [] e
-      two (p ∷ q ∷ ps) e k = within-head 1 7 q ps (within-tail 1 7 p (q ∷ ps) e)
+      two (p ∷ []) e k = within-head firstBase lastBase p [] e
+      two (p ∷ q ∷ ps) e k = within-head firstBase lastBase q ps (within-tail firstBase lastBase p (q ∷ ps) e)
 
   leaf-at : (i : ℕ) → i < length (g .leaves) → Leafy (getD (g .leaves) i 0)
-  leaf-at i h = within-at 8 63 (g .leaves) i 0 ls h
+  leaf-at i h = within-at firstLeaf lastLeaf (g .leaves) i 0 ls h
 
   compact-plan : compactOk g ≡ true → Keeping (compactPlan (getD (g .bases) 0 0) (g .dest) (g .leaves))
   unfolding compactOk
   compact-plan e =
       let one : length (g .bases) ≡ 1 = eqb-true (length (g .bases)) 1 (all-head _ _ e) in
       let e5 = all-tail _ _ (all-tail _ _ (all-tail _ _ (all-tail _ _ (all-tail _ _ e)))) in
-      compact-keeps _ (g .dest) (g .leaves) (base-first (omega arith)) (within-head 8 63 (g .dest) [] (all-head _ _ e5)) ls
+      compact-keeps _ (g .dest) (g .leaves) (base-first (omega arith)) (within-head firstLeaf lastLeaf (g .dest) [] (all-head _ _ e5)) ls
 
   swap-plan : swapOk g ≡ true
       → Keeping (swapPlan (getD (g .bases) 0 0) (getD (g .bases) 1 (getD (g .bases) 0 0)) (getD (g .leaves) 0 0) (getD (g .leaves) 1 0))
@@ -135,7 +130,7 @@ module _ (g : Begin) (bs : within 1 7 (g .bases) ≡ true) (ls : within 8 63 (g 
       let e1 = all-tail _ _ e in
       let leaf : length (g .leaves) ≡ 1 = eqb-true (length (g .leaves)) 1 (all-head _ _ e1) in
       let e3 = all-tail _ _ (all-tail _ _ e1) in
-      move-keeps _ _ (g .dest) (base-first (omega arith)) (leaf-at 0 (omega arith)) (within-head 8 63 (g .dest) [] (all-head _ _ e3))
+      move-keeps _ _ (g .dest) (base-first (omega arith)) (leaf-at 0 (omega arith)) (within-head firstLeaf lastLeaf (g .dest) [] (all-head _ _ e3))
 
   -- by type
   type-plan : (a b : Bool) → pick a (compactOk g) (pick b (swapOk g) (both (eqb (g .type) 3) (moveOk g))) ≡ true

@@ -10,8 +10,9 @@ use lib.ListN.{length, take, drop, getD, take-append-drop, length-take, length-d
 use lib.Seq.{drop-append-le}
 use lib.Dec.{eqb}
 use Rattle.field.specs.Bytes.{le2}
-use Rattle.page.specs.Page.{rowsOf, pointing, count, rows, entries, isEmpty, formed}
+use Rattle.page.specs.Page.{rowsOf, toBases, firstBase, lastBase, count, rows, entries, isEmpty, formed}
 use Rattle.page.specs.Pages.{page, pages}
+use Rattle.page.specs.Places.{Basic}
 use Rattle.page.proofs.Rows.{rowsOf-front, page-row}
 use Rattle.page.proofs.Turns.{rows-next}
 use Rattle.page.proofs.Pages.{formed-page, lent-page}
@@ -43,7 +44,7 @@ module _ (w : List ℕ) (f : InForm w) (n : ℕ) (e : n ≡ count (page 0 w)) wh
       ap (drop 16) (sym (take-append-drop 256 w)) ∙ drop-append-le 16 (take 256 w) (drop 256 w) (omega arith) in
       rw s (rowsOf-front 8 n (drop 16 (take 256 w)) (drop 256 w) (omega arith)) ∙ root-rows w f n e
 
-  pub root-pointing : pointing 1 7 (rowsOf 8 n (drop 16 w)) ≡ true
+  pub root-pointing : toBases (rowsOf 8 n (drop 16 w)) ≡ true
   root-pointing = rw (root-front, root-entries w) (root-points (page 0 w) (root-formed w f))
 
 -- ---- the leaves below the entry in front, and those behind
@@ -63,19 +64,19 @@ leaves-end w n l h = rw (none-left 8 n l h)
 pub record Ahead (w : List ℕ) (at left : ℕ) : Type 0 where
   pub form : InForm w
   pub fits : at + 8 * left ≤ 256
-  pub points : pointing 1 7 (rowsOf 8 left (drop at w)) ≡ true
+  pub points : toBases (rowsOf 8 left (drop at w)) ≡ true
 
 pub ahead-all : (w : List ℕ) (n : ℕ) → InForm w → n ≡ count (page 0 w) → Ahead w 16 n
 ahead-all w n f e = record { form = f; fits = omega (arith, few-root w f n e); points = root-pointing w f n e }
 
 module _ (w : List ℕ) (at left : ℕ) (a : Ahead w at left) (more : 0 < left) where
   pub ahead-behind : Ahead w (at + 8) (left - 1)
-  ahead-behind = record { form = a .form; fits = omega (arith, a .fits); points = point-behind 1 7 left at w (a .points) more }
+  ahead-behind = record { form = a .form; fits = omega (arith, a .fits); points = point-behind firstBase lastBase left at w (a .points) more }
 
   module _ (q : ℕ) (f : q ≡ le2 w (at + 6)) where
     -- the base page below the entry in front
-    pub ahead-base : (1 ≤ q) × (q ≤ 7)
-    ahead-base = (omega (arith, point-low 1 7 left at w (a .points) more), omega (arith, point-high 1 7 left at w (a .points) more))
+    pub ahead-base : Basic q
+    ahead-base = (omega (arith, point-low firstBase lastBase left at w (a .points) more), omega (arith, point-high firstBase lastBase left at w (a .points) more))
 
     -- its entries, m of them, where it is lent
     module _ (m : ℕ) (g : m ≡ count (page q w)) where

@@ -2,7 +2,7 @@
 use Prim.Native.Nat.{_+_, _*_, _≤_}
 use native.Mathlib.Omega.{arith}
 use mathlib.Core.Path.{sym, _∙_}
-use Rattle.unit.proofs.Places.{Leafy}
+use Rattle.page.specs.Places.{Leafy}
 use Rattle.forward.proofs.Stands.{Stands, stands, begin-room, step-keeps}
 use Rattle.forward.proofs.Appends.{tested-ok, in-some, in-inside, in-long, in-order, in-refused, in-stopped, in-goes, in-room}
 use borrow.Author.Needs.{needs}

@@ -5,7 +5,7 @@ use mathlib.Core.Path.{_≡_, sym, _∙_}
 use mathlib.Core.Bool.{true}
 use Rattle.page.specs.Page.{isLeaf}
 use Rattle.page.specs.Pages.{page}
-use Rattle.unit.proofs.Places.{Leafy}
+use Rattle.page.specs.Places.{Leafy}
 use Rattle.forward.proofs.Stands.{Stands, stands, step-keeps}
 use Rattle.forward.proofs.Appends.{tested-ok, length-lent, out-leaf, out-refused, out-stopped, out-few, out-room, out-goes}
 use borrow.Author.Needs.{needs}

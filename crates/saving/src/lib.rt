@@ -1,0 +1,1 @@
+// Saving and deleting: the pages that a put or a delete changes, drawn one at a time.

@@ -2,7 +2,7 @@
 -- and a leaf. The tree stays well formed, and its records are the old ones with the record at its key. Assumes nothing.
 use Prim.Native.Nat.{ℕ, suc, _+_, _*_, _≤_}
 use native.Mathlib.Omega.{arith}
-use mathlib.Core.Path.{_≡_, refl, sym, ap, _∙_}
+use mathlib.Core.Path.{_≡_, refl, sym, ap, _∙_, subst}
 use mathlib.Core.Logic.{_≢_, ⊎-elim}
 use mathlib.Core.List.{List, [], _∷_, _++_}
 use borrow.Author.Tests.{eq-eqb, ne-eqb}
@@ -10,8 +10,9 @@ use Rattle.page.specs.Page.{keyOf, firstBase}
 use Rattle.saving.specs.Save.{lesser, greater, withRecord}
 use Rattle.tidy.proofs.Model.{Entry, pointers, full, trail, Well, beneath, upd, state, entry-key, first, Tree, contents}
 use Rattle.tidy.proofs.Trail.{eq?, full-mid, full≤, nothing, beneath-append}
+use Rattle.tidy.proofs.Gather.{upd-twice}
 use Rattle.saved.proofs.Sorted.{put-marks, put-within}
-use Rattle.saved.proofs.Refill.{upd-at, upd-off, behind-entry, own-full, refill-well, refill-beneath, split-well, split-beneath}
+use Rattle.saved.proofs.Refill.{upd-at, upd-off, upd-swap, behind-entry, own-full, refill-well, refill-beneath, split-well, split-beneath}
 use Rattle.saved.proofs.Upper.{tree-of, tree-with, ahead, after, midst, level-is, lower-is, first-kept}
 use Rattle.saved.proofs.Around.{Over, over-rest, below-all, above-all, trail-over}
 
@@ -99,20 +100,26 @@ module _ (leaf : ℕ → List (List ℕ)) (base : ℕ → List Entry) (r1 : List
     two′ : leaf′ (x .page) ≡ lows ++ y ∷ highs
     two′ = upd-at leaf (x .page) grown ∙ two
 
+    -- the same leaves, as they are laid
+    same-leaves : leaf″ ≡ upd (upd leaf q (y ∷ highs)) (x .page) lows
+    same-leaves =
+        ap (λ (l : ℕ → List (List ℕ)). upd l q (y ∷ highs)) (upd-twice leaf (x .page) grown lows)
+        ∙ upd-swap leaf (x .page) q lows (y ∷ highs) (λ k. apart (sym k))
+
     pub split-tree : Tree (r1 ++ e ∷ r2)
-        (state (upd (upd (upd leaf (x .page) (withRecord r (leaf (x .page)))) (x .page) lows) q (y ∷ highs))
-        (upd base (e .page) (b1 ++ x ∷ record { key = keyOf y; page = q } ∷ b2)))
+        (state (upd (upd leaf q (y ∷ highs)) (x .page) lows) (upd base (e .page) (b1 ++ x ∷ record { key = keyOf y; page = q } ∷ b2)))
     split-tree =
-        tree-with leaf base r1 e r2 t wider leaf″ (omega (arith, full-mid b1 x (z ∷ b2), full≤ wider))
+        subst (λ (l : ℕ → List (List ℕ)). Tree (r1 ++ e ∷ r2) (state l (upd base (e .page) wider))) same-leaves
+        (tree-with leaf base r1 e r2 t wider leaf″ (omega (arith, full-mid b1 x (z ∷ b2), full≤ wider))
         (first-kept leaf base r1 e r2 t b1 x b2 is (z ∷ b2))
-        (rw (midst base r1 b1 (x ∷ z ∷ []) b2 r2) (split-well keyOf leaf′ pre x post well′ lows y highs two′ some-low q free′))
+        (rw (midst base r1 b1 (x ∷ z ∷ []) b2 r2) (split-well keyOf leaf′ pre x post well′ lows y highs two′ some-low q free′)))
 
     pub split-contents : contents (r1 ++ e ∷ r2)
-        (state (upd (upd (upd leaf (x .page) (withRecord r (leaf (x .page)))) (x .page) lows) q (y ∷ highs))
-        (upd base (e .page) (b1 ++ x ∷ record { key = keyOf y; page = q } ∷ b2)))
+        (state (upd (upd leaf q (y ∷ highs)) (x .page) lows) (upd base (e .page) (b1 ++ x ∷ record { key = keyOf y; page = q } ∷ b2)))
         ≡ withRecord r (contents (r1 ++ e ∷ r2) (state leaf base))
     split-contents =
-        ap (beneath leaf″) (refill-beneath entry-key base r1 e r2 (t .upper) wider ∙ midst base r1 b1 (x ∷ z ∷ []) b2 r2)
+        ap (λ (l : ℕ → List (List ℕ)). contents (r1 ++ e ∷ r2) (state l (upd base (e .page) wider))) (sym same-leaves)
+        ∙ ap (beneath leaf″) (refill-beneath entry-key base r1 e r2 (t .upper) wider ∙ midst base r1 b1 (x ∷ z ∷ []) b2 r2)
         ∙ split-beneath keyOf leaf′ pre x post well′ lows y highs two′ some-low q free′
         ∙ put-beneath leaf pre x post well r low high
         ∙ ap (λ (l : List Entry). withRecord r (beneath leaf l)) (sym level)

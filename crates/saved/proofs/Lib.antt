@@ -10,3 +10,5 @@ pub mod Numbered
 pub mod Lay
 pub mod Way
 pub mod Saves
+pub mod First
+pub mod Put

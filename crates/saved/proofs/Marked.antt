@@ -73,6 +73,11 @@ module _ (k : Kind) (rs : List (List ℕ)) (h : Holds k rs) where
   pub holds-bytes : Each Bytes rs
   holds-bytes = each-map (λ (r : List ℕ) (q : Row (k .size) (k .first) (k .second) r). q .bytes) (h .each)
 
+-- what is full has something
+pub length-full : {A : Type 0} (xs : List A) → full xs ≡ 1 → 1 ≤ length xs
+length-full [] h = absurd (omega arith)
+length-full (x ∷ xs) h = omega arith
+
 -- ---- a property of each row, of rows taken apart and of rows chosen by key
 
 module _ {P : List ℕ → Type 0} where

@@ -2,7 +2,7 @@
 -- own; a page is emptied, its entry's range joining the one before it or the one behind it. Assumes nothing.
 use Prim.Native.Nat.{ℕ, suc, _+_, _*_, _≤_}
 use native.Mathlib.Omega.{arith}
-use mathlib.Core.Path.{_≡_, refl, sym, ap, _∙_}
+use mathlib.Core.Path.{_≡_, refl, sym, ap, _∙_, fun-ext}
 use mathlib.Core.Logic.{_≢_, ⊎-elim}
 use mathlib.Core.Bool.{cond}
 use mathlib.Core.List.{List, [], _∷_, _++_, append-assoc, map-append}
@@ -23,6 +23,11 @@ module _ {A : Type 0} (f : ℕ → A) (p : ℕ) (a : A) where
 
   pub upd-off : (q : ℕ) → q ≢ p → upd f p a q ≡ f q
   upd-off q d = rw (ne-eqb q p d)
+
+-- two values in either order
+pub upd-swap : {A : Type 0} (f : ℕ → A) (p q : ℕ) (a b : A) → p ≢ q → upd (upd f p a) q b ≡ upd (upd f q b) p a
+upd-swap f p q a b d =
+    fun-ext (λ i. ⊎-elim (λ (e : i ≡ p). rw (eq-eqb i p e, ne-eqb i q (λ k. d (sym e ∙ k)))) (λ (n : i ≢ p). rw (ne-eqb i p n)) (eq? i p))
 
 -- ---- a level with the entry x in its midst
 

@@ -3,7 +3,7 @@
 -- without the key. Assumes nothing.
 use Prim.Native.Nat.{ℕ, suc, _+_, _*_, _≤_, _<_}
 use native.Mathlib.Omega.{arith}
-use mathlib.Core.Path.{_≡_, refl, sym, ap, _∙_}
+use mathlib.Core.Path.{_≡_, refl, sym, ap, _∙_, subst}
 use mathlib.Core.Logic.{_≢_, ⊎-elim}
 use mathlib.Core.Bool.{cond}
 use mathlib.Core.List.{List, [], _∷_, _++_, append-nil}
@@ -14,7 +14,7 @@ use Rattle.saving.specs.Save.{withoutKey}
 use Rattle.tidy.proofs.Model.{Entry, pointers, full, trail, Well, beneath, upd, state, entry-key, first, Tree, contents}
 use Rattle.tidy.proofs.Trail.{eq?, full-append, hit, beneath-append, beneath-but}
 use Rattle.saved.proofs.Sorted.{taken-marks, taken-within}
-use Rattle.saved.proofs.Refill.{upd-at, upd-off, none-behind, behind-entry, refill-well, refill-beneath, gone-well, gone-beneath}
+use Rattle.saved.proofs.Refill.{upd-at, upd-off, upd-swap, none-behind, behind-entry, refill-well, refill-beneath, gone-well, gone-beneath}
 use Rattle.saved.proofs.Refill.{joined-well, joined-beneath}
 use Rattle.saved.proofs.Upper.{tree-of, tree-with, tree-without, own-head, heads-but, ahead, after, midst, level-is, lower-is, first-kept}
 use Rattle.saved.proofs.Around.{Over, over-rest, below-all, above-all}
@@ -216,21 +216,27 @@ module _ (leaf : ℕ → List (List ℕ)) (base : ℕ → List Entry) (e d : Ent
       (eq? p (e .page)))
       (eq? p (d .page))
 
+  -- the same base pages, as they are laid
+  same-bases : base′ ≡ upd (upd base (d .page) lowest) (e .page) []
+  same-bases = upd-swap base (e .page) (d .page) [] lowest (λ c. apart (sym c))
+
   pub lowered-tree : Tree (record { key = e .key; page = d .page } ∷ r2)
-      (state (upd leaf (x .page) []) (upd (upd base (e .page) []) (d .page) (record { key = e .key; page = y .page } ∷ ys)))
+      (state (upd leaf (x .page) []) (upd (upd base (d .page) (record { key = e .key; page = y .page } ∷ ys)) (e .page) []))
   lowered-tree =
-      tree-of top lh base′ (t .zero-first) (
+      subst (λ (b : ℕ → List Entry). Tree top (state lh b)) same-bases
+      (tree-of top lh base′ (t .zero-first) (
         ap first at-d,
         heads-but (d .page) less base′ (upd-off less (d .page) lowest) r2 next-none
             (heads-but (e .page) base less (upd-off base (e .page) []) r2 rest-none (t .heads .1 .1)),
       )
-      pointed-low (rw level-low well-low)
+      pointed-low (rw level-low well-low))
 
   pub lowered-contents : contents (record { key = e .key; page = d .page } ∷ r2)
-      (state (upd leaf (x .page) []) (upd (upd base (e .page) []) (d .page) (record { key = e .key; page = y .page } ∷ ys)))
+      (state (upd leaf (x .page) []) (upd (upd base (d .page) (record { key = e .key; page = y .page } ∷ ys)) (e .page) []))
       ≡ withoutKey k (contents (e ∷ d ∷ r2) (state leaf base))
   lowered-contents =
-      ap (beneath lh) level-low
+      ap (λ (b : ℕ → List Entry). contents top (state lh b)) (sym same-bases)
+      ∙ ap (beneath lh) level-low
       ∙ joined-beneath keyOf leaf [] x y (ys ++ beneath base r2) wd
       ∙ rest-beneath leaf [] x (y ∷ (ys ++ beneath base r2)) wd k low high only
       ∙ ap (λ (l : List Entry). withoutKey k (beneath leaf l)) (sym level-old)

@@ -29,7 +29,7 @@ use Rattle.tidy.proofs.Known as Known
 use Rattle.saved.proofs.Refill.{own-full}
 use Rattle.saved.proofs.Upper.{own-head, ahead, after, lower-is}
 use Rattle.saved.proofs.Around.{Over}
-use Rattle.saved.proofs.Marked.{Rows, page-rows, each-parts, To, pointing-each}
+use Rattle.saved.proofs.Marked.{Rows, page-rows, length-full, each-parts, To, pointing-each}
 
 -- ---- entries before, at and behind the range that has the key
 
@@ -188,13 +188,9 @@ module _ (w : List ℕ) (tidy : Tidy w) (key : ℕ) (some-root : 1 ≤ length (e
   base-ents : baseOf w b ≡ ents lows
   base-ents = base-at w b (basic .0) (basic .1)
 
-  some-of : (l : List (List ℕ)) → full l ≡ 1 → 1 ≤ length l
-  some-of [] h = absurd (omega arith)
-  some-of (y ∷ l) h = omega arith
-
   some-base : 1 ≤ length lows
   some-base =
-      some-of lows (sym (full-ents lows) ∙ ap full (sym base-ents) ∙ own-full entry-key (baseOf w) (ents r1) (ent e) (ents r2) (tree .upper))
+      length-full lows (sym (full-ents lows) ∙ ap full (sym base-ents) ∙ own-full entry-key (baseOf w) (ents r1) (ent e) (ents r2) (tree .upper))
 
   base-is : isBase (page b w) ≡ true
   base-is =

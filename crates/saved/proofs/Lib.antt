@@ -12,3 +12,7 @@ pub mod Way
 pub mod Saves
 pub mod First
 pub mod Put
+pub mod Take
+pub mod Drop
+pub mod Delete
+pub mod Held

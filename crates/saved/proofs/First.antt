@@ -2,10 +2,9 @@
 use Prim.Native.Nat.{ℕ, _≤_, _<_}
 use native.Mathlib.Omega.{arith}
 use mathlib.Core.Path.{_≡_, refl, sym, ap, _∙_}
-use mathlib.Core.Bool.{true}
 use mathlib.Core.List.{List, [], _∷_}
 use Rattle.field.specs.Bytes.{zeroes, most4}
-use Rattle.page.specs.Page.{root, base, leaf, firstBase, lastBase, firstLeaf, lastLeaf, toPage, entry, spare, entries, isRoot}
+use Rattle.page.specs.Page.{root, base, leaf, firstBase, lastBase, firstLeaf, lastLeaf, entry, spare, entries}
 use Rattle.page.specs.Pages.{page, pages}
 use Rattle.page.specs.Each.{Each}
 use Rattle.page.proofs.Made.{spare-of}

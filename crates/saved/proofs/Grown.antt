@@ -1,6 +1,6 @@
 -- A put on a well-formed tree: the record goes into the leaf of its key; a leaf without room is split; the first record of all gets a base page
 -- and a leaf. The tree stays well formed, and its records are the old ones with the record at its key. Assumes nothing.
-use Prim.Native.Nat.{ℕ, suc, _+_, _*_, _≤_}
+use Prim.Native.Nat.{ℕ, suc, _*_, _≤_}
 use native.Mathlib.Omega.{arith}
 use mathlib.Core.Path.{_≡_, refl, sym, ap, _∙_, subst}
 use mathlib.Core.Logic.{_≢_, ⊎-elim}

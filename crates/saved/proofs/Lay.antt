@@ -11,7 +11,7 @@ use Rattle.field.specs.Bytes.{Bytes, zeroes, most4}
 use Rattle.field.proofs.Test.{both-intro}
 use Rattle.field.proofs.Byte.{bytes-zeroes}
 use Rattle.page.specs.Page.{Kind, root, base, leaf, empty, firstBase, lastBase, firstLeaf, lastLeaf, toBases, entries, made, shaped, isRoot}
-use Rattle.page.specs.Pages.{page, putPage, pages}
+use Rattle.page.specs.Pages.{putPage, pages}
 use Rattle.page.specs.Places.{Basic, Leafy}
 use Rattle.page.specs.Each.{Each}
 use Rattle.page.proofs.Made.{Fit, fit-root, fit-base, fit-leaf, fit-empty, bytes-made}
@@ -27,7 +27,7 @@ use Rattle.tidy.proofs.Pages.{leafOf, baseOf, rootOf, sound-put, page-same, pag
 use Rattle.tidy.proofs.Shown.{Shows, shows-leaf, shows-base}
 use Rattle.tidy.proofs.Formed.{stateOf, records-of, from-tree, shown-state}
 use Rattle.saved.specs.Saved.{laid, Spares}
-use Rattle.saved.proofs.Marked.{Rows, Holds, holds-fill, holds-bytes, To, each-pointing}
+use Rattle.saved.proofs.Marked.{Holds, holds-fill, holds-bytes, To, each-pointing}
 use Rattle.saved.proofs.Numbered.{Placed}
 
 -- ---- what is laid shows a tree

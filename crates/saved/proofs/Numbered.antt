@@ -81,7 +81,7 @@ module _ (n : ℕ) where
   Placed [] = Unit {0}
   Placed (x ∷ xs) = (x .at < 64) × (length (drawn n x) ≡ 256) × Spares (x .at) xs × Placed xs
 
-  pub length-laid : (xs : List Sheet) (w : List ℕ) → Placed xs → length w ≡ 16384 → length (laid n xs w) ≡ 16384
+  length-laid : (xs : List Sheet) (w : List ℕ) → Placed xs → length w ≡ 16384 → length (laid n xs w) ≡ 16384
   unfolding laid
   length-laid [] w p h = h
   length-laid (x ∷ xs) w p h = length-putPage (x .at) (laid n xs w) (length-laid xs w (p .3) h) (p .0) (drawn n x) (p .1)

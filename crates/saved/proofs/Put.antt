@@ -259,7 +259,7 @@ module _ (w : List ℕ) (tidy : Tidy w) (r : List ℕ) (row : RowOf leaf r) (n :
         base-parts .2,
       )
 
-  pub put-into : (xs : List Sheet) → putInto r (baseFor (keyOf r) (pages w)) (leafFor (keyOf r) (pages w)) (pages w) ≡ sheets xs
+  put-into : (xs : List Sheet) → putInto r (baseFor (keyOf r) (pages w)) (leafFor (keyOf r) (pages w)) (pages w) ≡ sheets xs
       → Saves n xs w (withRecord r (allRecords (pages w)))
   put-into xs c = by-room (leb (length rs) (leaf .most)) refl (sym into-is ∙ c)
     where

@@ -66,7 +66,7 @@ module _ {Item : Type 0} (key : Item → ℕ) (f : ℕ → List Item) (pre : Lis
     off-page : (q : ℕ) → q ≢ x .page → upd f (x .page) is q ≡ f q
     off-page q d = upd-off f (x .page) is q d
 
-    pub trail-before : trail key (upd f (x .page) is) pre ≡ trail key f pre
+    trail-before : trail key g pre ≡ trail key f pre
     trail-before = trail-but key f (x .page) g off-page pre none-before
 
     trail-behind : trail key g post ≡ trail key f post

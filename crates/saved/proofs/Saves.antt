@@ -3,7 +3,7 @@
 use Prim.Native.Nat.{ℕ, _+_, _≤_, _<_}
 use native.Mathlib.Omega.{arith}
 use native.Mathlib.Nat.{zero-add}
-use mathlib.Core.Path.{_≡_, refl, sym, ap, _∙_}
+use mathlib.Core.Path.{_≡_, refl, ap, _∙_}
 use mathlib.Core.Logic.{_⊎_, inl, inr}
 use mathlib.Core.Bool.{Bool, true, false, false≢true}
 use mathlib.Core.List.{List, [], _∷_}
@@ -22,7 +22,7 @@ use Rattle.tidy.proofs.Pages.{leafOf}
 use Rattle.tidy.proofs.Chosen.{lowest-empty}
 use Rattle.tidy.proofs.Known.{empty-place}
 use Rattle.saved.specs.Saved.{laid, Rising, Saves}
-use Rattle.saved.proofs.Numbered.{Placed, placed-order, laid-order, rising-order, some-order, laid-other, laid-stand, stand-form}
+use Rattle.saved.proofs.Numbered.{placed-order, laid-order, rising-order, some-order, laid-other, laid-stand, stand-form}
 use Rattle.saved.proofs.Lay.{Lays, lays-tidy, lays-records}
 
 -- ---- the free page

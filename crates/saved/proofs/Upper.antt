@@ -84,7 +84,7 @@ tree-of root leaf base z h u l =
 -- ---- first keys
 
 -- of two lists of root entries
-pub heads-append : (base : ℕ → List Entry) (xs ys : List Entry) → Heads base xs → Heads base ys → Heads base (xs ++ ys)
+heads-append : (base : ℕ → List Entry) (xs ys : List Entry) → Heads base xs → Heads base ys → Heads base (xs ++ ys)
 heads-append base [] ys h k = k
 heads-append base (x ∷ xs) ys h k = (h .0, heads-append base xs ys (h .1) k)
 

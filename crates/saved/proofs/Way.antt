@@ -1,6 +1,6 @@
 -- The way down to a key's leaf, over the bytes: the root entry and the base entry whose ranges have the key, those before them and those behind
 -- them, and all that is known of them on tidy pages. Assumes nothing.
-use Prim.Native.Nat.{ℕ, _+_, _≤_, _<_}
+use Prim.Native.Nat.{ℕ, _≤_, _<_}
 use native.Mathlib.Omega.{arith}
 use mathlib.Core.Path.{_≡_, refl, sym, ap, _∙_}
 use mathlib.Core.Logic.{⊎-elim}

@@ -54,11 +54,11 @@ spares-order p (x ∷ xs) s = spares-insert p x (inOrder xs) (s .0) (spares-orde
 
 rising-insert : (lo : ℕ) (x : Sheet) (ys : List Sheet) → lo ≤ x .at → x .at < 64 → Spares (x .at) ys → Rising lo ys → Rising lo (insert x ys)
 unfolding insert
-rising-insert lo x [] h k s r = (h, k, tt)
+rising-insert lo x [] h k s r = (h, omega arith, tt)
 rising-insert lo x (y ∷ ys) h k s r =
     split (x .at) (y .at)
     (λ (c : x .at < y .at).
-    rw (pick-true (ltb (x .at) (y .at)) (x ∷ y ∷ ys) (y ∷ insert x ys) (lt-ltb (x .at) (y .at) c)) (h, k, (omega arith, r .1, r .2)))
+    rw (pick-true (ltb (x .at) (y .at)) (x ∷ y ∷ ys) (y ∷ insert x ys) (lt-ltb (x .at) (y .at) c)) (h, omega arith, (omega arith, r .1, r .2)))
     (λ (c : y .at ≤ x .at).
     rw (pick-false (ltb (x .at) (y .at)) (x ∷ y ∷ ys) (y ∷ insert x ys) (le-ltb (x .at) (y .at) c))
     (r .0, r .1, rising-insert (y .at + 1) x ys (strict c (s .0)) k (s .1) (r .2)))

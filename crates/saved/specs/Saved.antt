@@ -8,7 +8,7 @@ use mathlib.Core.Bool.{true}
 use mathlib.Core.List.{List, [], _∷_}
 use lib.ListN.{length, getD}
 use Rattle.field.specs.Bytes.{Bytes, most4}
-use Rattle.page.specs.Page.{Kind, leaf, keyOf, formed}
+use Rattle.page.specs.Page.{Kind, leaf, lastLeaf, keyOf, formed}
 use Rattle.page.specs.Pages.{page, putPage, pages}
 use Rattle.tree.specs.Tree.{allRecords, rootEntries}
 use Rattle.saving.specs.Save.{Sheet, drawn, sheets, withRecord, withoutKey, leafFor, putSheets, deleteSheets}
@@ -24,7 +24,7 @@ laid n (x ∷ xs) w = putPage (x .at) (drawn n x) (laid n xs w)
 -- in number order, from page p on
 abbrev pub Rising : (p : ℕ) → List Sheet → Type 0
 Rising p [] = Unit {0}
-Rising p (x ∷ xs) = (p ≤ x .at) × (x .at < 64) × Rising (x .at + 1) xs
+Rising p (x ∷ xs) = (p ≤ x .at) × (x .at ≤ lastLeaf) × Rising (x .at + 1) xs
 
 -- each is in the form of its page
 abbrev pub EachFormed : (n : ℕ) → List Sheet → Type 0

@@ -1,0 +1,6 @@
+-- Laws of the way down to a key, of a page drawn in three parts, of the shapes of a changed page, and of plans.
+pub mod Found
+pub mod Leads
+pub mod Image
+pub mod Shapes
+pub mod Plans

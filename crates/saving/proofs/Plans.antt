@@ -35,7 +35,15 @@ module _ (x : Plan) (i : ℕ) where
 
 -- ---- drafts listed
 
-module _ (w r : List ℕ) (x : Plan) (c d : Changed) where
+module _ (w r : List ℕ) (x : Plan) (c : Changed) where
   -- a plan of one thing is a plan of another that is the same
-  pub plans-as : Plans w r x c → c ≡ d → Plans w r x d
-  plans-as p e = rw (← e) p
+  pub plans-as : (d : Changed) → Plans w r x d → c ≡ d → Plans w r x c
+  plans-as d p e = rw e p
+
+  -- drafts listed are the pages that they stand for
+  pub listed-as : (n : ℕ) (a1 a2 a3 a4 : Draft) (x1 x2 x3 x4 : List ℕ → Sheet) → Draws w a1 x1 → Draws w a2 x2 → Draws w a3 x3 → Draws w a4 x4
+      → ((w r : List ℕ) → Ready w a1 → Ready w a2 → Ready w a3 → Ready w a4
+      → Plans w r x (sheets (take n (sheetOf (pages w) r a1 ∷ sheetOf (pages w) r a2 ∷ sheetOf (pages w) r a3 ∷ sheetOf (pages w) r a4 ∷ []))))
+      → c ≡ sheets (take n (x1 r ∷ x2 r ∷ x3 r ∷ x4 r ∷ [])) → Plans w r x c
+  listed-as n a1 a2 a3 a4 x1 x2 x3 x4 d1 d2 d3 d4 l e =
+      rw (e, ← (d1 .same r), ← (d2 .same r), ← (d3 .same r), ← (d4 .same r)) (l w r (d1 .ready) (d2 .ready) (d3 .ready) (d4 .ready))

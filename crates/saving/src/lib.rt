@@ -2,4 +2,5 @@
 pub mod draft;
 pub mod draw;
 pub mod plan;
+pub mod put;
 pub mod route;

@@ -105,6 +105,17 @@ module _ (w : List ℕ) (f : InForm w) (well : wellFormed (pages w) ≡ true) (s
   pub root-rowed : Rowed 8 w 0
   root-rowed = record { inside = omega arith; fits = omega (arith, root-ordered w f .room); full = some }
 
+  -- the page below an entry of the root
+  root-over : (i b : ℕ) → i < count (page 0 w) → b ≡ toPage (getD (rows 8 (page 0 w)) i []) → Over w b
+  root-over i b h e = rw e (each-at i (all-over w f (once w well)) (omega (arith, length-rows 8 (page 0 w))))
+
+  pub root-below : (i b : ℕ) → i < count (page 0 w) → b ≡ toPage (getD (rows 8 (page 0 w)) i []) → Rowed 8 w b
+  root-below i b h e = spot-rowed 8 w b (root-over i b h e .base)
+
+  pub root-basic : (i b : ℕ) → i < count (page 0 w) → b ≡ toPage (getD (rows 8 (page 0 w)) i []) → Basic b
+  root-basic i b h e =
+      rw e (pointing-at firstBase lastBase i (rows 8 (page 0 w)) (root-points (page 0 w) (root-formed w f)) (omega (arith, length-rows 8 (page 0 w))))
+
   module _ (key i : ℕ) (ei : i ≡ length (before key (rows 8 (page 0 w)))) where
     over-parts : Parts key (rows 8 (page 0 w)) i
     over-parts = parted key 8 0 i w ei some
@@ -114,13 +125,13 @@ module _ (w : List ℕ) (f : InForm w) (well : wellFormed (pages w) ≡ true) (s
 
     module _ (b : ℕ) (eb : b ≡ toPage (getD (rows 8 (page 0 w)) i [])) where
       base-over : Over w b
-      base-over = rw eb (each-at i (all-over w f (once w well)) (over-parts .inside))
+      base-over = root-over i b over-inside eb
 
       pub base-rowed : Rowed 8 w b
-      base-rowed = spot-rowed 8 w b (base-over .base)
+      base-rowed = root-below i b over-inside eb
 
       base-basic : Basic b
-      base-basic = rw eb (pointing-at firstBase lastBase i (rows 8 (page 0 w)) (root-points (page 0 w) (root-formed w f)) (over-parts .inside))
+      base-basic = root-basic i b over-inside eb
 
       module _ (j : ℕ) (ej : j ≡ length (before key (rows 8 (page b w)))) where
         under-parts : Parts key (rows 8 (page b w)) j
@@ -153,17 +164,17 @@ module _ (w : List ℕ) (f : InForm w) (well : wellFormed (pages w) ≡ true) (s
           unfolding leafFor
           leaf-named = rw (← base-named, getD-pages b w (base-over .base .inside), under-parts .here) ep
 
-          pub leads : (x : Route) → x .over ≡ i → x .base .0 ≡ b → x .under ≡ j → x .leaf .0 ≡ p → Stands w p key (x .at) (x .past) → Leads w key x
-          leads x e1 e2 e3 e4 s =
+          pub leads : (x : Route) → x .key ≡ key → x .over ≡ i → x .base .0 ≡ b → x .under ≡ j → x .leaf .0 ≡ p → Stands w p key (x .at) (x .past) → Leads w x
+          leads x e0 e1 e2 e3 e4 s =
               record {
-                base-is = e2 ∙ base-named;
-                leaf-is = e4 ∙ leaf-named;
+                base-is = rw e0 (e2 ∙ base-named);
+                leaf-is = rw e0 (e4 ∙ leaf-named);
                 basic = rw e2 base-basic;
                 leafy = rw e4 leaf-leafy;
                 root = root-rowed;
                 base = rw e2 base-rowed;
                 leaf = rw e4 leaf-rowed;
-                over = e1 ∙ ei;
-                under = rw (e2, e3) ej;
-                stands = rw e4 s;
+                over = rw e0 (e1 ∙ ei);
+                under = rw (e0, e2, e3) ej;
+                stands = rw (e0, e4) s;
               }

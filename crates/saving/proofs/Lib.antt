@@ -6,3 +6,4 @@ pub mod Shapes
 pub mod Plans
 pub mod Halves
 pub mod Puts
+pub mod Deletes

@@ -33,7 +33,11 @@ module _ (x : Plan) (i : ℕ) where
       unfolding draftAt
       at-fourth! n2 = sym (pick-false _ _ _ (ne-eqb i 0 n0) ∙ pick-false _ _ _ (ne-eqb i 1 n1) ∙ pick-false _ _ _ (ne-eqb i 2 n2))
 
--- ---- drafts listed
+-- ---- drafts
+
+-- a draft stands for what is the same
+pub draws-as : (w : List ℕ) (d : Draft) (x y : List ℕ → Sheet) → Draws w d x → ((r : List ℕ) → x r ≡ y r) → Draws w d y
+draws-as w d x y p e = record { same = λ r. p .same r ∙ e r; ready = p .ready }
 
 module _ (w r : List ℕ) (x : Plan) (c : Changed) where
   -- a plan of one thing is a plan of another that is the same

@@ -110,9 +110,9 @@ module _ (key b p : ℕ) (es rs ps : List (List ℕ)) (u : ℕ) (z : Parts key e
 
 -- ---- the base page on the way to a key
 
-module _ (w : List ℕ) (key : ℕ) (x : Route) (t : Leads w key x) where
-  pub under-parts : Parts key (rows 8 (page (x .base .0) w)) (x .under)
-  under-parts = parted key 8 (x .base .0) (x .under) w (t .under) (t .base .full)
+module _ (w : List ℕ) (x : Route) (t : Leads w x) where
+  pub under-parts : Parts (x .key) (rows 8 (page (x .base .0) w)) (x .under)
+  under-parts = parted (x .key) 8 (x .base .0) (x .under) w (t .under) (t .base .full)
 
   pub under-there : x .under + 1 ≤ count (page (x .base .0) w)
   under-there = omega (arith, under-parts .inside, length-rows 8 (page (x .base .0) w))

@@ -33,15 +33,15 @@ pub record Stands (w : List ℕ) (p key i k : ℕ) : Type 0 where
   pub lone : k ≤ i + 1
   pub inside : k ≤ count (page p w)
 
--- the way x leads to the key
-pub record Leads (w : List ℕ) (key : ℕ) (x : Route) : Type 0 where
-  pub base-is : x .base .0 ≡ baseFor key (pages w)
-  pub leaf-is : x .leaf .0 ≡ leafFor key (pages w)
+-- the way x leads to its key
+pub record Leads (w : List ℕ) (x : Route) : Type 0 where
+  pub base-is : x .base .0 ≡ baseFor (x .key) (pages w)
+  pub leaf-is : x .leaf .0 ≡ leafFor (x .key) (pages w)
   pub basic : Basic (x .base .0)
   pub leafy : Leafy (x .leaf .0)
   pub root : Rowed 8 w 0
   pub base : Rowed 8 w (x .base .0)
   pub leaf : Rowed 16 w (x .leaf .0)
-  pub over : x .over ≡ length (before key (rows 8 (page 0 w)))
-  pub under : x .under ≡ length (before key (rows 8 (page (x .base .0) w)))
-  pub stands : Stands w (x .leaf .0) key (x .at) (x .past)
+  pub over : x .over ≡ length (before (x .key) (rows 8 (page 0 w)))
+  pub under : x .under ≡ length (before (x .key) (rows 8 (page (x .base .0) w)))
+  pub stands : Stands w (x .leaf .0) (x .key) (x .at) (x .past)

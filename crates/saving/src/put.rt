@@ -129,9 +129,9 @@ fn upper_key(w: &[u8], key: u32, p: PageNo, i: u16) -> u32
 }
 
 // A full leaf with a record more: the upper half goes to the lowest empty leaf page.
-fn put_split(w: &[u8], key: u32, x: Route) -> Plan
-    requires { ⌜ InForm (now w) × Leads (now w) key x × (count (page (x .leaf .0) (now w)) ≡ 15) × (x .past ≡ x .at) ⌝ }
-    ensures { λ y. ⌜ ((r : List ℕ) → key ≡ keyOf r → Plans (now (w .entry)) r y (splitLeaf key (x .base .0) (x .leaf .0) (rows 8 (page (x .base .0) (now (w .entry)))) (withAt (x .at) r (rows 16 (page (x .leaf .0) (now (w .entry))))) (pages (now (w .entry))))) ⌝ }
+fn put_split(w: &[u8], x: Route) -> Plan
+    requires { ⌜ InForm (now w) × Leads (now w) x × (count (page (x .leaf .0) (now w)) ≡ 15) × (x .past ≡ x .at) ⌝ }
+    ensures { λ y. ⌜ ((r : List ℕ) → x .key ≡ keyOf r → Plans (now (w .entry)) r y (splitLeaf (x .key) (x .base .0) (x .leaf .0) (rows 8 (page (x .base .0) (now (w .entry)))) (withAt (x .at) r (rows 16 (page (x .leaf .0) (now (w .entry))))) (pages (now (w .entry))))) ⌝ }
 {
     let q = free_leaf(w);
     if bounds::LAST_LEAF < q.0 {
@@ -140,7 +140,7 @@ fn put_split(w: &[u8], key: u32, x: Route) -> Plan
     if 30 <= well::count_at(w, x.base.0 as usize) {
         return plan::refused(18);
     }
-    let more = More::Entry(upper_key(w, key, x.leaf, x.at), q);
+    let more = More::Entry(upper_key(w, x.key, x.leaf, x.at), q);
     let base = draft::patched(w, x.base, b'b', 8, x.under + 1, more, x.under + 1);
     let low = lower_half(x.leaf, x.at);
     let high = upper_half(q, x.leaf, x.at);
@@ -151,13 +151,13 @@ fn put_split(w: &[u8], key: u32, x: Route) -> Plan
 }
 
 // A put where the root has entries.
-fn put_into(w: &[u8], key: u32, x: Route) -> Plan
-    requires { ⌜ InForm (now w) × Leads (now w) key x ⌝ }
-    ensures { λ y. ⌜ ((r : List ℕ) → key ≡ keyOf r → Plans (now (w .entry)) r y (putInto r (x .base .0) (x .leaf .0) (pages (now (w .entry))))) ⌝ }
+fn put_into(w: &[u8], x: Route) -> Plan
+    requires { ⌜ InForm (now w) × Leads (now w) x ⌝ }
+    ensures { λ y. ⌜ ((r : List ℕ) → x .key ≡ keyOf r → Plans (now (w .entry)) r y (putInto r (x .base .0) (x .leaf .0) (pages (now (w .entry))))) ⌝ }
 {
     let n = well::count_at(w, x.leaf.0 as usize);
     if 15 <= n - (x.past - x.at) {
-        return put_split(w, key, x);
+        return put_split(w, x);
     }
     let leaf = draft::patched(w, x.leaf, b'l', 16, x.at, More::Record, x.past);
     plan::listed(1, leaf, leaf, leaf, leaf)
@@ -171,7 +171,6 @@ pub fn put_drafts(w: &[u8], r: &[u8]) -> Plan
     if well::count_at(w, 0) == 0 {
         return put_first(w);
     }
-    let key = field::get4(r, 2);
-    let x = route::route_to(w, key);
-    put_into(w, key, x)
+    let x = route::route_to(w, field::get4(r, 2));
+    put_into(w, x)
 }

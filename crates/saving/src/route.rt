@@ -13,9 +13,10 @@ ghost use Rattle.saving.specs.Route.{leading, Rowed, Stands, Leads};
 use field::PageNo;
 use tree::well;
 
-// The base page and the place of its entry in the root, the leaf and the place of its entry in the base page, and in the leaf the place of
-// the key's record, or where it would stand, and the place behind it.
+// A key; the base page and the place of its entry in the root, the leaf and the place of its entry in the base page, and in the leaf the
+// place of the key's record, or where it would stand, and the place behind it.
 pub struct Route {
+    pub key: u32,
     pub base: PageNo,
     pub over: u16,
     pub leaf: PageNo,
@@ -96,7 +97,7 @@ fn past(w: &[u8], p: PageNo, key: u32, i: u16) -> u16
 // The way down to a key, where the root has entries.
 pub fn route_to(w: &[u8], key: u32) -> Route
     requires { ⌜ InForm (now w) × (wellFormed (pages (now w)) ≡ true) × (0 < count (page 0 (now w))) ⌝ }
-    ensures { λ x. ⌜ Leads (now (w .entry)) key x ⌝ }
+    ensures { λ x. ⌜ (x .key ≡ key) × Leads (now (w .entry)) x ⌝ }
 {
     let over = entry_for(w, PageNo(0), key);
     let base = page_at(w, PageNo(0), over);
@@ -105,6 +106,7 @@ pub fn route_to(w: &[u8], key: u32) -> Route
     let at = record_for(w, leaf, key);
     let end = past(w, leaf, key, at);
     Route {
+        key: key,
         base: base,
         over: over,
         leaf: leaf,

@@ -37,9 +37,10 @@ returns-2 c =
     let n = k .before .before in
     let a = n .before .before .before in
     let w = a .args .w .now in
-    let t = x .route-to .ensures in
-    plans-as w (a .args .r .now) _ _ _ (c .put-into .ensures (a .args .r .now) (k .get4 .ensures))
-    (put-below (a .args .r .now) w _ _ _ (k .get4 .ensures) (t .base-is) (t .leaf-is) (λ z. k .before .if1 .left (n .count-at .ensures ∙ z)))
+    let t = x .route-to .ensures .1 in
+    let same = x .route-to .ensures .0 ∙ k .get4 .ensures in
+    plans-as w (a .args .r .now) _ _ _ (c .put-into .ensures (a .args .r .now) same)
+    (put-below (a .args .r .now) w _ _ _ same (t .base-is) (t .leaf-is) (λ z. k .before .if1 .left (n .count-at .ensures ∙ z)))
 
 pub put-drafts-spec : {M : Type 1} → statement M
 put-drafts-spec =

@@ -24,7 +24,7 @@ returns c = λ r e.
     let a = f .before .before in
     let w = a .args .w .now in
     plans-as w r _ _ _ (c .refused .ensures w r)
-    (split-nowhere _ _ _ _ _ _ _ (under-parts w _ _ (a .pre .1)) _ (f .free-leaf .ensures) (c .before .if1 .taken))
+    (split-nowhere _ _ _ _ _ _ _ (under-parts w _ (a .pre .1)) _ (f .free-leaf .ensures) (c .before .if1 .taken))
 
 cast-count-at : tie.Need-cast-count-at
 cast-count-at c = search needs
@@ -42,7 +42,7 @@ returns-2 c = λ r e.
     let a = f .before .before in
     let w = a .args .w .now in
     let many : 30 ≤ length (rows 8 (page (a .args .x .base .0) w)) = omega (arith, length-rows 8 (page (a .args .x .base .0) w), n .count-at .ensures, c .before .if2 .taken) in
-    plans-as w r _ _ _ (c .refused2 .ensures w r) (split-full _ _ _ _ _ _ _ (under-parts w _ _ (a .pre .1)) _ (f .free-leaf .ensures) many)
+    plans-as w r _ _ _ (c .refused2 .ensures w r) (split-full _ _ _ _ _ _ _ (under-parts w _ (a .pre .1)) _ (f .free-leaf .ensures) many)
 
 upper-key-requires : tie.Need-upper-key-requires
 upper-key-requires c κs = search needs
@@ -50,12 +50,12 @@ upper-key-requires c κs = search needs
 add-patched : tie.Need-add-patched
 add-patched c =
     let a = c .before .before .before .before .before .before .before .before .before in
-    omega (arith, under-there (a .args .w .now) _ _ (a .pre .1), a .pre .1 .base .fits)
+    omega (arith, under-there (a .args .w .now) _ (a .pre .1), a .pre .1 .base .fits)
 
 add-patched-2 : tie.Need-add-patched-2
 add-patched-2 c =
     let a = c .before .before .before .before .before .before .before .before .before .before in
-    omega (arith, under-there (a .args .w .now) _ _ (a .pre .1), a .pre .1 .base .fits)
+    omega (arith, under-there (a .args .w .now) _ (a .pre .1), a .pre .1 .base .fits)
 
 patched-requires : tie.Need-patched-requires
 patched-requires c κs =
@@ -63,7 +63,7 @@ patched-requires c κs =
     let n = k .before .before in
     let a = n .before .before .before .before .before .before in
     let w = a .args .w .now in
-    (a .pre .0 .whole, a .pre .1 .base .inside, widens w _ _ (a .pre .1) _ _ (omega (arith, n .count-at .ensures, k .before .if2 .left)))
+    (a .pre .0 .whole, a .pre .1 .base .inside, widens w _ (a .pre .1) _ _ (omega (arith, n .count-at .ensures, k .before .if2 .left)))
 
 lower-half-requires : tie.Need-lower-half-requires
 lower-half-requires c κs =
@@ -98,7 +98,7 @@ returns-3 c = λ r e.
     let room : length es < 30 = omega (arith, length-rows 8 (page (a .args .x .base .0) w), n .count-at .ensures, k .before .if2 .left) in
     let free = free-leafy _ _ (f .free-leaf .ensures) (g .if1 .left) in
     listed-as w r _ _ 3 _ _ _ _ _ _ _ _ (b .patched .ensures) (l .lower-half .ensures w (a .pre .2)) (v .upper-half .ensures w (a .pre .2)) (v .upper-half .ensures w (a .pre .2)) (c .listed .ensures)
-    (split-low _ _ _ _ _ _ _ (under-parts w _ _ t) _ (f .free-leaf .ensures) _ (k .upper-key .ensures r e) room (g .if1 .left)
+    (split-low _ _ _ _ _ _ _ (under-parts w _ t) _ (f .free-leaf .ensures) _ (k .upper-key .ensures r e) room (g .if1 .left)
     (omega (arith, t .basic, t .leafy)) (c .before .if3 .taken))
 
 listed-requires-2 : tie.Need-listed-requires-2
@@ -121,7 +121,7 @@ returns-4 c = λ r e.
     let room : length es < 30 = omega (arith, length-rows 8 (page (a .args .x .base .0) w), n .count-at .ensures, k .before .if2 .left) in
     let free = free-leafy _ _ (f .free-leaf .ensures) (g .if1 .left) in
     listed-as w r _ _ 3 _ _ _ _ _ _ _ _ (b .patched .ensures) (v .upper-half .ensures w (a .pre .2)) (l .lower-half .ensures w (a .pre .2)) (l .lower-half .ensures w (a .pre .2)) (c .listed2 .ensures)
-    (split-high _ _ _ _ _ _ _ (under-parts w _ _ t) _ (f .free-leaf .ensures) _ (k .upper-key .ensures r e) room (g .if1 .left)
+    (split-high _ _ _ _ _ _ _ (under-parts w _ t) _ (f .free-leaf .ensures) _ (k .upper-key .ensures r e) room (g .if1 .left)
     (omega (arith, t .basic, free)) (c .before .if3 .left))
 
 pub put-split-spec : {M : Type 1} → statement M

@@ -54,9 +54,11 @@ returns : tie.Need-returns
 returns c =
     let l = c .before .before in
     let g = l .before .before in
-    let a = g .before .before .before in
-    leads (a .args .w .now) (a .pre .0) (a .pre .1) (a .pre .2) _ _ (g .before .entry-for .ensures) _ (g .page-at .ensures) _ (l .before .entry-for2 .ensures) _ (l .page-at2 .ensures) _
-    refl refl refl refl (c .past .ensures)
+    let a = g .before .before .before in (
+      refl,
+      leads (a .args .w .now) (a .pre .0) (a .pre .1) (a .pre .2) _ _ (g .before .entry-for .ensures) _ (g .page-at .ensures) _ (l .before .entry-for2 .ensures) _ (l .page-at2 .ensures) _
+          refl refl refl refl refl (c .past .ensures),
+    )
 
 pub route-to-spec : {M : Type 1} → statement M
 route-to-spec =

@@ -1,30 +1,25 @@
 -- The pages that a delete changes, by places: a record taken out of a leaf, an entry out of a base page, out of the root. Assumes nothing.
-use Prim.Native.Nat.{ℕ, zero, suc, _+_, _-_, _*_, _≤_, _<_}
+use Prim.Native.Nat.{ℕ, zero, suc, _+_, _-_, _≤_, _<_}
 use native.Mathlib.Nat.{not-suc-le-zero}
-use native.Mathlib.Numerals.{add-one}
 use native.Mathlib.Omega.{arith}
-use mathlib.Core.Path.{_≡_, refl, sym, ap, ap₂, _∙_}
-use mathlib.Core.Bool.{true, false}
+use mathlib.Core.Path.{_≡_, refl, ap, _∙_}
 use mathlib.Core.List.{List, [], _∷_, _++_}
 use lib.ListN.{length, take, drop, getD, length-append, length-drop, drop-of-length-le}
 use lib.Seq.{length-take-le, drop-cons}
-use lib.Dec.{leb, ltb}
 use borrow.Author.Tests.{le-leb, lt-leb, lt-ltb, le-ltb}
-use Rattle.field.specs.Test.{pick, need}
 use Rattle.field.proofs.Test.{pick-true, pick-false, need-true, need-false}
 use Rattle.field.proofs.Part.{split}
-use Rattle.page.specs.Page.{root, base, leaf, empty, keyOf, toPage, entry, entries, count, rows}
+use Rattle.page.specs.Page.{root, base, leaf, empty, keyOf, toPage, entries, count, rows}
 use Rattle.page.specs.Pages.{page, pages}
 use Rattle.page.proofs.Rows.{length-rows}
 use Rattle.page.proofs.Pages.{getD-pages}
 use Rattle.tree.specs.Tree.{under, rootEntries}
 use Rattle.tree.proofs.Sound.{root-entries}
-use Rattle.saving.specs.Save.{Sheet, Changed, cannot, sheets, rewritten, anew, inOrder, withoutKey, before, through, behind, baseFor, leafFor, lowered, closed, unite, rightLowered, emptyOut, deleteFrom, deleteSheets}
+use Rattle.saving.specs.Save.{Sheet, cannot, sheets, rewritten, anew, inOrder, withoutKey, baseFor, leafFor, lowered, closed, unite, rightLowered, emptyOut, deleteFrom, deleteSheets}
 use Rattle.field.specs.declared.PageNo.{PageNo}
 use Rattle.saving.specs.Draft.{inserted, Draws}
 use Rattle.saving.specs.Route.{Stands, Leads}
 use Rattle.saving.specs.declared.draft.Draft.{Draft}
-use Rattle.saving.specs.declared.draft.More.{More}
 use Rattle.saving.specs.declared.draft.More.the-variants.{Nothing, Entry}
 use Rattle.saving.specs.declared.route.Route.{Route}
 use Rattle.saving.proofs.Found.{Parts}

@@ -1,6 +1,6 @@
 -- The way down by places: the entries before, at and behind a key's range, and the records below and above a key, are parts of their lists.
 -- The laws that end in `!` are for `search`. Assumes nothing.
-use Prim.Native.Nat.{ℕ, zero, suc, _+_, _-_, _*_, _≤_, _<_}
+use Prim.Native.Nat.{ℕ, suc, _+_, _-_, _≤_, _<_}
 use native.Mathlib.Nat.{not-suc-le-zero}
 use native.Mathlib.Numerals.{add-one}
 use native.Mathlib.Omega.{arith}
@@ -8,18 +8,17 @@ use mathlib.Core.Path.{_≡_, refl, sym, ap, _∙_}
 use mathlib.Core.Bool.{true, false}
 use mathlib.Core.List.{List, [], _∷_}
 use lib.ListN.{length, take, drop, getD}
-use lib.Dec.{ltb, eqb}
+use lib.Dec.{ltb}
 use borrow.Author.Tests.{lt-ltb, le-ltb, eq-eqb, ne-eqb, leb-true}
-use Rattle.field.specs.Test.{both, pick, there}
+use Rattle.field.specs.Test.{there}
 use Rattle.field.specs.Bytes.{le4}
 use Rattle.field.proofs.Test.{both-1, both-2, pick-true, pick-false}
 use Rattle.field.proofs.Part.{split}
-use Rattle.page.specs.Page.{rowsOf, keyOf, ascend, count, rows}
+use Rattle.page.specs.Page.{rowsOf, keyOf, ascend}
 use Rattle.page.proofs.Rows.{key-row}
 use Rattle.page.proofs.Turns.{rows-next, no-rows}
 use Rattle.tree.specs.Tree.{lower}
 use Rattle.tree.specs.Answer.{recordWith}
-use Rattle.tree.proofs.Regions.{decide}
 use Rattle.saving.specs.Save.{lesser, greater, before, through, behind}
 use Rattle.saving.specs.Route.{leading}
 

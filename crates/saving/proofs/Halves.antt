@@ -1,9 +1,9 @@
 -- The two halves of a full leaf with a record more, as drafts, and the smallest key of the upper one. Assumes nothing.
-use Prim.Native.Nat.{ℕ, _+_, _-_, _*_, _≤_, _<_}
+use Prim.Native.Nat.{ℕ, _-_, _≤_, _<_}
 use native.Mathlib.Omega.{arith}
 use mathlib.Core.Path.{_≡_, refl, sym, ap, _∙_}
 use mathlib.Core.Bool.{true, false}
-use mathlib.Core.List.{List, [], _∷_, _++_, append-nil}
+use mathlib.Core.List.{List, [], append-nil}
 use lib.ListN.{length, take, drop, getD, length-drop}
 use lib.Seq.{take-all}
 use Rattle.field.specs.Test.{pick}
@@ -14,8 +14,6 @@ use Rattle.page.specs.Places.{Leafy}
 use Rattle.page.proofs.Rows.{length-rows}
 use Rattle.saving.specs.Save.{rewritten, anew}
 use Rattle.saving.specs.Draft.{withAt, inserted, spareOf, sheetOf, Draws}
-use Rattle.saving.specs.declared.draft.Draft.{Draft}
-use Rattle.saving.specs.declared.draft.More.{More}
 use Rattle.saving.specs.declared.draft.More.the-variants.{Nothing, Record}
 use Rattle.saving.proofs.Shapes.{run-front, run-to, run-back, spare-kept, lower-new, lower-old, upper-new, upper-old, ninth-old, ninth-new, ninth-front}
 

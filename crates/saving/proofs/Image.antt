@@ -2,7 +2,7 @@
 use Prim.Native.Nat.{ℕ, _+_, _-_, _*_, _≤_, _<_}
 use native.Mathlib.Nat.{mul-add, mul-le-mul-left}
 use native.Mathlib.Omega.{arith}
-use mathlib.Core.Path.{_≡_, refl, sym, ap, subst, _∙_}
+use mathlib.Core.Path.{_≡_, sym, ap, subst, _∙_}
 use mathlib.Core.Bool.{Bool, true, false, not}
 use mathlib.Core.List.{List, [], _∷_, _++_, append-nil, append-assoc}
 use lib.ListN.{length, take, drop, getD, length-append, length-drop}
@@ -17,7 +17,7 @@ use Rattle.page.specs.Page.{rowsOf, joined, entry, letter, count, number, spare
 use Rattle.page.specs.Pages.{page, pages}
 use Rattle.page.specs.Each.{Each, nil, cons, Long}
 use Rattle.page.proofs.Rows.{each-append, length-rowsOf, length-rows, long-rowsOf, getD-rowsOf, getD-rows}
-use Rattle.page.proofs.Pages.{getD-pages, length-page}
+use Rattle.page.proofs.Pages.{getD-pages}
 use Rattle.page.proofs.Made.{count-made}
 use Rattle.page.proofs.Images.{made-more, made-again}
 use Rattle.field.specs.declared.PageNo.{PageNo}

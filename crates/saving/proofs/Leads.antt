@@ -1,27 +1,26 @@
 -- The way down to a key in a well-formed tree: the pages on it, and the places of its entries and of the record. Assumes nothing.
 use Prim.Native.Nat.{ℕ, _+_, _-_, _*_, _≤_, _<_}
 use native.Mathlib.Nat.{mul-add, mul-le-mul-left}
-use native.Mathlib.Numerals.{add-one}
 use native.Mathlib.Omega.{arith}
-use mathlib.Core.Path.{_≡_, refl, sym, ap, _∙_}
+use mathlib.Core.Path.{_≡_, sym, _∙_}
 use mathlib.Core.Bool.{true}
-use mathlib.Core.List.{List, [], _∷_}
+use mathlib.Core.List.{List, []}
 use lib.ListN.{length, take, drop, getD}
 use Rattle.field.specs.Bytes.{le2, le4}
 use Rattle.field.proofs.Number.{le2-part, le4-part}
-use Rattle.page.specs.Page.{rowsOf, keyOf, toPage, count, rows, entries, firstBase, lastBase, firstLeaf, lastLeaf}
+use Rattle.page.specs.Page.{rowsOf, keyOf, toPage, count, rows, firstBase, lastBase, firstLeaf, lastLeaf}
 use Rattle.page.specs.Pages.{page, pages}
 use Rattle.page.specs.Places.{Basic, Leafy}
 use Rattle.page.proofs.Rows.{each-at, length-rows, key-at, page-at}
 use Rattle.page.proofs.Order.{pointing-at}
 use Rattle.page.proofs.Turns.{rows-next}
 use Rattle.page.proofs.Pages.{getD-pages, formed-page, lent-page}
-use Rattle.tree.specs.Tree.{rootEntries, wellFormed}
-use Rattle.tree.specs.Walk.{InForm, Ascending, Spot, Over, Above, Below}
+use Rattle.tree.specs.Tree.{wellFormed}
+use Rattle.tree.specs.Walk.{InForm, Ascending, Spot, Over}
 use Rattle.tree.proofs.Regions.{root-points, base-points}
 use Rattle.tree.proofs.Sound.{root-entries, root-formed, root-ordered, all-over}
 use Rattle.unit.proofs.Ordered.{once}
-use Rattle.saving.specs.Save.{before, through, baseFor, leafFor}
+use Rattle.saving.specs.Save.{before, baseFor, leafFor}
 use Rattle.saving.specs.Route.{leading, Rowed, Stands, Leads}
 use Rattle.saving.specs.declared.route.Route.{Route}
 use Rattle.saving.proofs.Found.{Parts, parts, before-length, leading-few, lesser-front, Rest, rest-absent, rest-present}

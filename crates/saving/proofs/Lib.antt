@@ -4,6 +4,7 @@ pub mod Leads
 pub mod Image
 pub mod Shapes
 pub mod Plans
+pub mod Told
 pub mod Halves
 pub mod Puts
 pub mod Deletes

@@ -1,7 +1,6 @@
 -- Plans: the draft in a place, and what a plan of listed drafts says. The laws that end in `!` are for `search`. Assumes nothing.
-use Prim.Native.Nat.{ℕ, _<_}
-use native.Mathlib.Omega.{arith}
-use mathlib.Core.Path.{_≡_, refl, sym, _∙_}
+use Prim.Native.Nat.{ℕ}
+use mathlib.Core.Path.{_≡_, sym, _∙_}
 use mathlib.Core.List.{List, [], _∷_}
 use lib.ListN.{take}
 use borrow.Author.Tests.{eq-eqb, ne-eqb}

@@ -1,30 +1,28 @@
 -- The pages that a put changes, by places: a first record, a record put into a leaf, a full leaf split. Assumes nothing.
-use Prim.Native.Nat.{ℕ, _+_, _-_, _*_, _≤_, _<_}
+use Prim.Native.Nat.{ℕ, _+_, _-_, _≤_, _<_}
 use native.Mathlib.Numerals.{add-one}
 use native.Mathlib.Omega.{arith}
-use mathlib.Core.Path.{_≡_, refl, sym, ap, ap₂, _∙_}
-use mathlib.Core.Bool.{true, false}
+use mathlib.Core.Path.{_≡_, refl, sym, ap, _∙_}
+use mathlib.Core.Bool.{true}
 use mathlib.Core.List.{List, [], _∷_, _++_, append-assoc}
 use lib.ListN.{length, take, drop, getD, length-append, length-drop}
 use lib.Seq.{take-suc, length-take-le}
 use lib.Dec.{leb, ltb}
 use borrow.Author.Tests.{eq-eqb, ne-eqb, le-leb, lt-leb, lt-ltb, le-ltb, ltb-true}
-use Rattle.field.specs.Test.{both, all, pick}
+use Rattle.field.specs.Test.{both, all}
 use Rattle.field.proofs.Test.{both-intro, both-false, both-no, all-head, pick-true, pick-false, need-true, need-false}
 use Rattle.page.specs.Page.{root, base, leaf, firstBase, lastBase, lastLeaf, keyOf, entry, count, rows}
 use Rattle.page.specs.Pages.{page, pages}
 use Rattle.page.specs.Places.{Leafy, emptyLeaf}
 use Rattle.page.proofs.Rows.{length-rows}
 use Rattle.page.proofs.Pages.{getD-pages}
-use Rattle.tree.specs.Tree.{rootEntries}
 use Rattle.tree.proofs.Regions.{decide}
 use Rattle.tree.proofs.Sound.{root-entries}
 use Rattle.unit.specs.Choice.{lowestEmpty}
-use Rattle.saving.specs.Save.{Changed, cannot, sheets, rewritten, anew, nowhere, freeLeaf, lesser, greater, withRecord, before, through, behind, baseFor, leafFor, putFirst, splitLeaf, putInto, putSheets}
+use Rattle.saving.specs.Save.{cannot, sheets, rewritten, anew, nowhere, freeLeaf, withRecord, before, through, behind, baseFor, leafFor, putFirst, splitLeaf, putInto, putSheets}
 use Rattle.field.specs.declared.PageNo.{PageNo}
 use Rattle.saving.specs.Draft.{withAt, Patch}
 use Rattle.saving.specs.Route.{Stands, Leads}
-use Rattle.saving.specs.declared.draft.More.{More}
 use Rattle.saving.specs.declared.draft.More.the-variants.{Entry}
 use Rattle.saving.specs.declared.route.Route.{Route}
 use Rattle.saving.proofs.Found.{Parts}

@@ -1,15 +1,14 @@
 -- The shapes of a changed page, by rows: a page patched, its entries from one on with another key, an entry gone; the two halves of a full
 -- leaf with a record more; and pages in number order. Assumes nothing.
-use Prim.Native.Nat.{ℕ, zero, suc, _+_, _-_, _*_, _≤_, _<_}
+use Prim.Native.Nat.{ℕ, zero, suc, _+_, _-_, _≤_, _<_}
 use native.Mathlib.Nat.{not-suc-le-zero, mul-le-mul-left, zero-add}
 use native.Mathlib.Numerals.{add-one}
 use native.Mathlib.Omega.{arith}
-use mathlib.Core.Path.{_≡_, refl, sym, ap, ap₂, _∙_}
+use mathlib.Core.Path.{_≡_, refl, ap, _∙_}
 use mathlib.Core.Bool.{true}
-use mathlib.Core.List.{List, [], _∷_, _++_, append-nil}
-use lib.ListN.{length, take, drop, getD, length-append, length-drop, List·getD-append}
-use lib.Seq.{take-all, take-suc, drop-cons, append-snoc, length-take-le, take-append-le, drop-append-le, take-at, drop-at, take-take, take-add, drop-drop, take-append-add, drop-append-add, getD-at, getD-append-add, getD-take, getD-drop}
-use lib.Dec.{ltb}
+use mathlib.Core.List.{List, [], _∷_, _++_}
+use lib.ListN.{length, take, drop, getD, length-drop, List·getD-append}
+use lib.Seq.{take-all, drop-cons, length-take-le, take-append-le, drop-append-le, drop-at, take-take, take-add, drop-drop, take-append-add, drop-append-add, getD-at, getD-append-add, getD-take, getD-drop}
 use borrow.Author.Tests.{lt-ltb, le-ltb}
 use Rattle.field.specs.Test.{pick}
 use Rattle.field.proofs.Test.{pick-true, pick-false}
@@ -17,10 +16,9 @@ use Rattle.page.specs.Page.{keyOf, toPage, entry, spare, count, rows}
 use Rattle.page.specs.Pages.{page, pages}
 use Rattle.page.proofs.Rows.{length-rows}
 use Rattle.page.proofs.Pages.{getD-pages}
-use Rattle.saving.specs.Save.{Sheet, sheet, rewritten, insert, inOrder, lowered, closed}
+use Rattle.saving.specs.Save.{Sheet, rewritten, insert, inOrder, lowered, closed}
 use Rattle.field.specs.declared.PageNo.{PageNo}
 use Rattle.saving.specs.Draft.{withAt, run, inserted, spareOf, sheetOf, Patch, Draws}
-use Rattle.saving.specs.declared.draft.Draft.{Draft}
 use Rattle.saving.specs.declared.draft.More.{More}
 
 -- ---- runs of a page

@@ -9,7 +9,6 @@ use Rattle.page.specs.Page.{keyOf, count, rows}
 use Rattle.page.specs.Pages.{page, pages}
 use Rattle.page.specs.Places.{Basic, Leafy}
 use Rattle.tree.specs.Answer.{recordWith}
-use Rattle.tree.specs.Walk.{Spot}
 use Rattle.saving.specs.Save.{lesser, greater, before, baseFor, leafFor}
 use Rattle.saving.specs.declared.route.Route.{Route}
 

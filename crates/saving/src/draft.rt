@@ -1,8 +1,8 @@
 // A changed page as a draft: a run of rows of a source page, perhaps a row that is new, and another run of that page. No byte is written.
 ghost use mathlib.Core.Path.{_≡_};
 ghost use mathlib.Core.List.{List, [], _++_};
-ghost use Prim.Native.Nat.{ℕ, _+_, _-_, _*_, _≤_, _<_};
-ghost use lib.ListN.{length, take, drop, getD};
+ghost use Prim.Native.Nat.{ℕ, _-_, _≤_, _<_};
+ghost use lib.ListN.{length, take, drop};
 ghost use Rattle.page.specs.Page.{empty, rows};
 ghost use Rattle.page.specs.Pages.{page, pages};
 ghost use Rattle.saving.specs.Save.{sheet, rewritten, anew};

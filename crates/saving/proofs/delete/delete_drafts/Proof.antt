@@ -1,5 +1,4 @@
 -- `saving::delete::delete_drafts` meets its contract. Assumes nothing.
-use native.Mathlib.Omega.{arith}
 use mathlib.Core.Path.{_∙_, sym}
 use Rattle.saving.proofs.Plans.{plans-as}
 use Rattle.saving.proofs.Deletes.{delete-none, delete-below}

@@ -1,7 +1,6 @@
 -- `saving::draw::with_more` meets its contract. Assumes nothing.
 use mathlib.Core.List.{[]}
 use native.Mathlib.Omega.{arith}
-use Prim.Native.Nat.{ℕ}
 use mathlib.Core.Path.{_≡_}
 use Rattle.saving.proofs.Image.{record-size, entry-size, more-none!, more-record, more-entry}
 use borrow.Author.Needs.{needs}

@@ -1,7 +1,4 @@
 -- `saving::plan::draft_at` meets its contract. Assumes nothing.
-use mathlib.Core.Path.{sym}
-use borrow.Author.Tests.{eq-eqb, ne-eqb}
-use Rattle.saving.specs.Draft.{draftAt}
 use Rattle.saving.proofs.Plans.{at-first!, at-second!, at-third!, at-fourth! }
 use Rattle.saving.proofs.plan.draft_at.Statement.{statement}
 use Rattle.saving.proofs.plan.draft_at.Tie as tie

@@ -1,25 +1,25 @@
 -- A page drawn in three parts: its header, a run of rows of a lent page, a new row. Assumes nothing.
 use Prim.Native.Nat.{ℕ, _+_, _-_, _*_, _≤_, _<_}
-use native.Mathlib.Nat.{mul-add, mul-le-mul-left}
+use native.Mathlib.Nat.{add-zero, mul-zero, mul-add, mul-le-mul-left}
+use native.Mathlib.Numerals.{add-one}
 use native.Mathlib.Omega.{arith}
-use mathlib.Core.Path.{_≡_, sym, ap, subst, _∙_}
+use mathlib.Core.Path.{_≡_, sym, ap, _∙_}
 use mathlib.Core.Bool.{Bool, true, false, not}
 use mathlib.Core.List.{List, [], _∷_, _++_, append-nil, append-assoc}
-use lib.ListN.{length, take, drop, getD, length-append, length-drop}
+use lib.ListN.{length, take, drop, getD, set, length-append, length-drop, take-append-drop}
 use lib.Seq.{ext-getD, take-all, length-take-le, getD-take, getD-drop}
 use borrow.Author.Tests.{not-true, not-false}
 use Rattle.field.specs.Test.{pick}
 use Rattle.field.proofs.Test.{pick-either}
 use Rattle.field.specs.Bytes.{part, put, zeroes, bytes2, bytes4}
-use Rattle.field.proofs.Part.{length-part, part-part, lent-part}
+use Rattle.field.proofs.Part.{length-part, part-part, put-next, sets-put, lent-part}
 use Rattle.field.proofs.Zero.{length-zeroes}
-use Rattle.page.specs.Page.{rowsOf, joined, entry, letter, count, number, spare, rows, entries, made}
+use Rattle.page.specs.Page.{rowsOf, joined, entry, spare, rows, made}
 use Rattle.page.specs.Pages.{page, pages}
 use Rattle.page.specs.Each.{Each, nil, cons, Long}
-use Rattle.page.proofs.Rows.{each-append, length-rowsOf, length-rows, long-rowsOf, getD-rowsOf, getD-rows}
+use Rattle.page.proofs.Rows.{each-append, length-rowsOf, length-rows, long-rowsOf, joined-rowsOf, length-joined, getD-rowsOf, getD-rows}
+use Rattle.page.proofs.Written.{topped, body, made-topped, topped-put, topped-count, body-append}
 use Rattle.page.proofs.Pages.{getD-pages}
-use Rattle.page.proofs.Made.{count-made}
-use Rattle.page.proofs.Images.{made-more, made-again}
 use Rattle.field.specs.declared.PageNo.{PageNo}
 use Rattle.saving.specs.Save.{drawn}
 use Rattle.saving.specs.Draft.{run, inserted, spareOf, sheetOf, Run, Suits, Ready}
@@ -97,153 +97,153 @@ module _ (sz p i k : ℕ) (w : List ℕ) (whole : length w ≡ 16384) (small : p
       ext-getD [] _ _ (length-rowsOf sz k _ ∙ sym length-run)
       (λ m h. row-is m (omega (arith, length-rowsOf sz k (part at (sz * k) w))))
 
-  pub run-lent : rowsOf sz k (take (at + sz * k - at) (drop at w)) ≡ run sz p i k (pages w)
-  run-lent = rw (lent-part at (sz * k) w) run-is
+  -- its bytes are those that are lent
+  pub run-lent : take (at + sz * k - at) (drop at w) ≡ joined (run sz p i k (pages w))
+  run-lent =
+      rw (lent-part at (sz * k) w, ← run-is, joined-rowsOf sz k (part at (sz * k) w))
+      (sym (take-all (sz * k) (part at (sz * k) w) (omega (arith, length-part at (sz * k) w run-ends))))
 
-  pub run-length : length (run sz p i k (pages w)) ≡ k
-  run-length = length-run
-
-  pub run-long : Each (Long sz) (run sz p i k (pages w))
+  run-long : Each (Long sz) (run sz p i k (pages w))
   run-long = rw (← run-is) (long-rowsOf sz k (part at (sz * k) w) (omega (arith, length-part at (sz * k) w run-ends)))
 
 -- ---- the new row
 
-pub inserted-long : (sz : ℕ) (r : List ℕ) (m : More) → length r ≡ 16 → Suits sz m → Each (Long sz) (inserted r m)
+inserted-long : (sz : ℕ) (r : List ℕ) (m : More) → length r ≡ 16 → Suits sz m → Each (Long sz) (inserted r m)
 unfolding inserted entry bytes2 bytes4
 inserted-long sz r Nothing h s = nil
 inserted-long sz r Record h s = cons (h ∙ sym s) nil
 inserted-long sz r (Entry key p) h s = cons (sym s) nil
 
-pub inserted-few : (r : List ℕ) (m : More) → length (inserted r m) ≤ 1
+inserted-few : (r : List ℕ) (m : More) → length (inserted r m) ≤ 1
 unfolding inserted
 inserted-few r Nothing = omega arith
 inserted-few r Record = omega arith
 inserted-few r (Entry key p) = omega arith
 
-module _ (sz : ℕ) (r image : List ℕ) (m : More) where
-  abbrev with-rows : List (List ℕ) → List ℕ
-  with-rows rs = made (letter image) (number image) (spare image) rs
+-- the bytes of an entry, one after the other
+pub entry-put : (at key p : ℕ) (l : List ℕ) → at + 8 ≤ length l
+    → put (at + 6) (bytes2 p) (put (at + 2) (bytes4 key) (set (set l at 101) (at + 1) 110)) ≡ put at (entry key p) l
+unfolding entry bytes2 bytes4
+entry-put at key p l h =
+    let mark : List ℕ = 101 ∷ 110 ∷ [] in
+    let m : set (set l at 101) (at + 1) 110 ≡ put at mark l = rw (add-one at) (sets-put mark l at (omega arith)) in
+    rw (m, put-next at mark (bytes4 key) l (omega arith)) (put-next at (mark ++ bytes4 key) (bytes2 p) l (omega arith))
 
-  pub record-size : m ≡ Record → Suits sz m → sz ≡ 16
-  record-size h s = subst (λ (x : More). Suits sz x) h s
+module _ (r image : List ℕ) (at : ℕ) (m : More) where
+  pub no-row! : m ≡ Nothing → image ≡ put at (joined (inserted r m)) image
+  unfolding inserted joined put
+  no-row! h = rw (h, add-zero at) (sym (take-append-drop at image))
 
-  pub entry-size : (key : ℕ) (p : PageNo) → m ≡ Entry key p → Suits sz m → sz ≡ 8
-  entry-size key p h s = subst (λ (x : More). Suits sz x) h s
+  pub record-row! : (x : List ℕ) → m ≡ Record → x ≡ put at r image → x ≡ put at (joined (inserted r m)) image
+  unfolding inserted joined
+  record-row! x h e = e ∙ rw (h, append-nil r)
 
-  pub more-none! : m ≡ Nothing → image ≡ with-rows (rows sz image) → image ≡ with-rows (rows sz image ++ inserted r m)
+  pub entry-row! : (x : List ℕ) (key : ℕ) (p : PageNo) → m ≡ Entry key p → x ≡ put at (entry key (p .0)) image → x ≡ put at (joined (inserted r m)) image
+  unfolding inserted joined
+  entry-row! x key p h e = e ∙ rw (h, append-nil (entry key (p .0)))
+
+-- how long it is, and how many
+module _ (r : List ℕ) (m : More) where
+  pub record-long : m ≡ Record → length (joined (inserted r m)) ≡ length r
+  unfolding inserted joined
+  record-long h = rw (h, append-nil r)
+
+  pub entry-long : (key : ℕ) (p : PageNo) → m ≡ Entry key p → length (joined (inserted r m)) ≡ 8
+  unfolding inserted joined entry bytes2 bytes4
+  entry-long key p h = rw h
+
+  pub none-many : m ≡ Nothing → 0 ≡ length (inserted r m)
   unfolding inserted
-  more-none! h e = rw h (e ∙ ap with-rows (sym (append-nil (rows sz image))))
+  none-many h = rw h
 
-  pub more-record : (x : List ℕ) → m ≡ Record → sz ≡ 16 → length r ≡ 16 → x ≡ with-rows (rows 16 image ++ rowsOf 16 1 r) → x ≡ with-rows (rows sz image ++ inserted r m)
-  unfolding inserted rowsOf
-  more-record x h s l e = e ∙ rw (h, s, take-all 16 r (omega arith))
-
-  pub more-entry : (x : List ℕ) (key : ℕ) (p : PageNo) → m ≡ Entry key p → sz ≡ 8 → x ≡ with-rows (entries image ++ (entry key (p .0) ∷ []))
-      → x ≡ with-rows (rows sz image ++ inserted r m)
+  pub record-many : m ≡ Record → 1 ≡ length (inserted r m)
   unfolding inserted
-  more-entry x key p h s e = e ∙ rw (h, s)
+  record-many h = rw h
+
+  pub entry-many : (key : ℕ) (p : PageNo) → m ≡ Entry key p → 1 ≡ length (inserted r m)
+  unfolding inserted
+  entry-many key p h = rw h
 
 -- ---- one part after the other
 
--- an image with these rows so far
-pub record Holds (sz c n : ℕ) (sp image : List ℕ) (rs : List (List ℕ)) : Type 0 where
-  pub is : image ≡ made c n sp rs
-  pub eight : length sp ≡ 8
-  pub small : n < 4294967296
-  pub long : Each (Long sz) rs
-  pub few : length rs < 65536
-
-module _ (sz c n : ℕ) (sp image : List ℕ) (rs : List (List ℕ)) (h : Holds sz c n sp image rs) where
-  pub holds-made : image ≡ made (letter image) (number image) (spare image) (rows sz image)
-  holds-made = made-again sz c n sp rs (h .eight) (h .small) (h .few) (h .long) image (h .is)
-
-  pub holds-count : count image ≡ length rs
-  holds-count = rw (h .is) (count-made c n sp rs (h .few))
-
-  pub holds-more : (x : List ℕ) (xs : List (List ℕ)) → x ≡ made (letter image) (number image) (spare image) (rows sz image ++ xs)
-      → Each (Long sz) xs → length rs + length xs < 65536 → Holds sz c n sp x (rs ++ xs)
-  holds-more x xs e l f =
-      record {
-        is = e ∙ made-more sz c n sp rs (h .eight) (h .small) (h .few) (h .long) image xs (h .is);
-        eight = h .eight;
-        small = h .small;
-        long = each-append (h .long) l;
-        few = rw (length-append rs xs) f;
-      }
+-- rows written behind the rows of an image, whatever count it bears
+behind-rows : (sz c v n : ℕ) (sp : List ℕ) (rs xs : List (List ℕ)) → length sp ≡ 8 → Each (Long sz) rs
+    → put (16 + sz * length rs) (joined xs) (topped c v n (sp ++ body rs)) ≡ topped c v n (sp ++ body (rs ++ xs))
+behind-rows sz c v n sp rs xs eight long =
+    topped-put c v n (sz * length rs) sp (joined xs) (body rs) eight
+    ∙ ap (λ (l : List ℕ). topped c v n (sp ++ l)) (body-append rs xs (sz * length rs) (length-joined sz rs long))
 
 -- ---- a draft
 
-module _ (w r : List ℕ) (d : Draft) (n : ℕ) (whole : length w ≡ 16384) (long : length r ≡ 16) (ok : Ready w d) (small : n < 4294967296) where
+module _ (w r : List ℕ) (d : Draft) (whole : length w ≡ 16384) (long : length r ≡ 16) (ok : Ready w d) where
   abbrev sp : List ℕ
   sp = spareOf (d .kept) (d .page .0) (pages w)
 
   abbrev front : List (List ℕ)
   front = run (d .size) (d .source .0) (d .from) (d .many) (pages w)
 
+  abbrev new : List (List ℕ)
+  new = inserted r (d .more)
+
   abbrev back : List (List ℕ)
   back = run (d .size) (d .source .0) (d .next) (d .rest) (pages w)
+
+  eight : length sp ≡ 8
+  eight = spare-eight (d .page .0) w whole (ok .inside) (d .kept)
 
   front-long : Each (Long (d .size)) front
   front-long = run-long (d .size) (d .source .0) (d .from) (d .many) w whole (ok .source) (ok .front)
 
   front-many : length front ≡ d .many
-  front-many = run-length (d .size) (d .source .0) (d .from) (d .many) w whole (ok .source) (ok .front)
-
-  back-long : Each (Long (d .size)) back
-  back-long = run-long (d .size) (d .source .0) (d .next) (d .rest) w whole (ok .source) (ok .back)
+  front-many = length-run (d .size) (d .source .0) (d .from) (d .many) w whole (ok .source) (ok .front)
 
   back-many : length back ≡ d .rest
-  back-many = run-length (d .size) (d .source .0) (d .next) (d .rest) w whole (ok .source) (ok .back)
+  back-many = length-run (d .size) (d .source .0) (d .next) (d .rest) w whole (ok .source) (ok .back)
+
+  new-long : Each (Long (d .size)) new
+  new-long = inserted-long (d .size) r (d .more) long (ok .suits)
 
   -- so many rows fit
-  fits-in : (k m : ℕ) → k + m ≤ d .many + 1 + d .rest → d .size * k + d .size * m ≤ 240
-  fits-in k m h = omega (arith, mul-add (d .size) k m, mul-le-mul-left (d .size) h, ok .room)
+  rows-fit : (k : ℕ) → k ≤ d .many + 1 + d .rest → d .size * k ≤ 240
+  rows-fit k h = omega (arith, mul-le-mul-left (d .size) h, ok .room)
 
-  module _ (a : List ℕ) (ea : a ≡ made (d .sign) n sp []) where
-    begins : Holds (d .size) (d .sign) n sp a []
-    begins = record { is = ea; eight = spare-eight (d .page .0) w whole (ok .inside) (d .kept); small = small; long = nil; few = omega arith }
+  pub new-fits : 16 + d .size * d .many + length (joined new) ≤ 256
+  new-fits =
+      omega (
+        arith,
+        length-joined (d .size) new new-long,
+        mul-add (d .size) (d .many) (length new),
+        rows-fit (d .many + length new) (omega (arith, inserted-few r (d .more))),
+      )
 
-    count-none : count a ≡ 0
-    count-none = holds-count _ _ _ _ _ _ begins
+  pub back-fits : (m : ℕ) → m ≡ length new → 16 + d .size * d .many + d .size * m + d .size * d .rest ≤ 256
+  back-fits m e =
+      omega (
+        arith,
+        mul-add (d .size) (d .many) m,
+        mul-add (d .size) (d .many + m) (d .rest),
+        rows-fit (d .many + m + d .rest) (omega (arith, inserted-few r (d .more))),
+      )
 
-    pub front-asks : (a ≡ made (letter a) (number a) (spare a) (rows (d .size) a))
-        × ((length w ≡ 16384) × (d .source .0 < 64) × Run (d .size) w (d .source .0) (d .from) (d .many)
-        × (d .size * count a + d .size * d .many ≤ 240) × (count a + d .many < 65536))
-    front-asks =
-        (holds-made _ _ _ _ _ _ begins, (whole, ok .source, ok .front, fits-in (count a) (d .many) (omega (arith, count-none)), omega (arith, count-none, ok .few)))
+  pub few-rows : (m : ℕ) → m ≡ length new → d .many + m + d .rest ≤ 30
+  few-rows m e = omega (arith, inserted-few r (d .more), ok .few)
 
-    module _ (b : List ℕ) (eb : b ≡ made (letter a) (number a) (spare a) (rows (d .size) a ++ front)) where
-      fronted : Holds (d .size) (d .sign) n sp b front
-      fronted = holds-more _ _ _ _ _ _ begins b front eb front-long (omega (arith, front-many, ok .few))
-
-      count-front : count b ≡ d .many
-      count-front = holds-count _ _ _ _ _ _ fronted ∙ front-many
-
-      pub more-asks : (b ≡ made (letter b) (number b) (spare b) (rows (d .size) b))
-          × ((length r ≡ 16) × Suits (d .size) (d .more) × (d .size * count b + d .size ≤ 240) × (count b < 65535))
-      more-asks =
-          let room : d .size * count b + d .size * 1 ≤ 240 = fits-in (count b) 1 (omega (arith, count-front)) in
-          (holds-made _ _ _ _ _ _ fronted, (long, ok .suits, omega arith, omega (arith, count-front, ok .few)))
-
-      module _ (c : List ℕ) (ec : c ≡ made (letter b) (number b) (spare b) (rows (d .size) b ++ inserted r (d .more))) where
-        middle : Holds (d .size) (d .sign) n sp c (front ++ inserted r (d .more))
-        middle =
-            holds-more _ _ _ _ _ _ fronted c (inserted r (d .more)) ec (inserted-long (d .size) r (d .more) long (ok .suits))
-            (omega (arith, front-many, inserted-few r (d .more), ok .few))
-
-        count-middle : count c ≤ d .many + 1
-        count-middle =
-            omega (arith, holds-count _ _ _ _ _ _ middle, length-append front (inserted r (d .more)), front-many, inserted-few r (d .more))
-
-        pub back-asks : (c ≡ made (letter c) (number c) (spare c) (rows (d .size) c))
-            × ((length w ≡ 16384) × (d .source .0 < 64) × Run (d .size) w (d .source .0) (d .next) (d .rest)
-            × (d .size * count c + d .size * d .rest ≤ 240) × (count c + d .rest < 65536))
-        back-asks =
-            (holds-made _ _ _ _ _ _ middle, (whole, ok .source, ok .back, fits-in (count c) (d .rest) (omega (arith, count-middle)), omega (arith, count-middle, ok .few)))
-
-        pub all-drawn : (x : List ℕ) → x ≡ made (letter c) (number c) (spare c) (rows (d .size) c ++ back) → x ≡ drawn n (sheetOf (pages w) r d)
-        unfolding drawn sheetOf
-        all-drawn x ex =
-            holds-more _ _ _ _ _ _ middle x back ex back-long
-            (omega (arith, length-append front (inserted r (d .more)), front-many, inserted-few r (d .more), back-many, ok .few)) .is
-            ∙ rw (append-assoc front (inserted r (d .more)) back)
+  pub all-drawn : (n m : ℕ) (a b c e x : List ℕ) → m ≡ length new → a ≡ made (d .sign) n sp [] → b ≡ put 16 (joined front) a
+      → c ≡ put (16 + d .size * d .many) (joined new) b → e ≡ put (16 + d .size * d .many + d .size * m) (joined back) c
+      → x ≡ put 2 (bytes2 (d .many + m + d .rest)) e → x ≡ drawn n (sheetOf (pages w) r d)
+  unfolding drawn sheetOf
+  all-drawn n m a b c e x em ea eb ec ee ex =
+      let s : ℕ = d .size in
+      let h : ℕ = d .sign in
+      let first : 16 ≡ 16 + s * 0 = omega (arith, mul-zero s) in
+      let next : 16 + s * d .many ≡ 16 + s * length front = rw front-many in
+      let two : length (front ++ new) ≡ d .many + m = length-append front new ∙ rw (front-many, ← em) in
+      let last : 16 + s * d .many + s * m ≡ 16 + s * length (front ++ new) = rw two (omega (arith, mul-add s (d .many) m)) in
+      let all : d .many + m + d .rest ≡ length ((front ++ new) ++ back) = sym (length-append (front ++ new) back ∙ rw (two, back-many)) in
+      let ta : a ≡ topped h 0 n (sp ++ body []) = ea ∙ sym (made-topped h n sp []) in
+      let tb : b ≡ topped h 0 n (sp ++ body front) = eb ∙ rw (ta, first) (behind-rows s h 0 n sp [] front eight nil) in
+      let tc : c ≡ topped h 0 n (sp ++ body (front ++ new)) = ec ∙ rw (tb, next) (behind-rows s h 0 n sp front new eight front-long) in
+      let te : e ≡ topped h 0 n (sp ++ body ((front ++ new) ++ back)) =
+      ee ∙ rw (tc, last) (behind-rows s h 0 n sp (front ++ new) back eight (each-append front-long new-long)) in
+      ex ∙ rw (te, topped-count h 0 n (d .many + m + d .rest) (sp ++ body ((front ++ new) ++ back)), all)
+      (made-topped h n sp ((front ++ new) ++ back) ∙ rw (append-assoc front new back))

@@ -10,7 +10,7 @@ use Rattle.store.specs.declared.known.Numbers.{Numbers}
 use Rattle.store.specs.declared.known.Answer.{Answer}
 use Rattle.answering.specs.declared.looking.FindAnswer.{FindAnswer}
 use Rattle.answering.specs.declared.listing.ListAnswer.{ListAnswer}
-use Rattle.recovering.specs.declared.RecoverAnswer.{RecoverAnswer}
+use Rattle.waking.specs.declared.RecoverAnswer.{RecoverAnswer}
 use Rattle.store.specs.Calls.{Lent, lent, Left, left}
 use Rattle.store.specs.Calls as Calls
 

@@ -1,4 +1,4 @@
--- `recovering::none_newer` meets its contract. The invariant: no page is newer where none from page p on is. Assumes nothing.
+-- `waking::none_newer` meets its contract. The invariant: no page is newer where none from page p on is. Assumes nothing.
 use Prim.Native.Nat.{_≤_, _-_, _*_}
 use mathlib.Core.Path.{_≡_}
 use native.Mathlib.Omega.{arith}
@@ -6,9 +6,9 @@ use lib.ListN.{drop}
 use Rattle.page.specs.Page.{rowsOf}
 use Rattle.page.specs.Pages.{pages}
 use Rattle.store.specs.Calls.{noneNewer}
-use Rattle.recovering.proofs.Newer.{newer-start, newer-stop!, newer-more!, newer-end! }
-use Rattle.recovering.proofs.none_newer.Statement.{statement}
-use Rattle.recovering.proofs.none_newer.Tie as tie
+use Rattle.waking.proofs.Newer.{newer-start, newer-stop!, newer-more!, newer-end! }
+use Rattle.waking.proofs.none_newer.Statement.{statement}
+use Rattle.waking.proofs.none_newer.Tie as tie
 
 abbrev Inv-loop : tie.InvT-loop
 Inv-loop store last p₀ p = (p ≤ 64) × (noneNewer (last .0) (pages store) ≡ noneNewer (last .0) (rowsOf 256 (64 - p) (drop (256 * p) store)))

@@ -1,9 +1,18 @@
--- `recovering::blanked` meets its contract: zeros over all pages. Assumes nothing.
-use mathlib.Core.Path.{_∙_}
-use Rattle.recovering.proofs.Recovers.{all-blank}
+-- `waking::blanked` meets its contract: zeros over all pages. Assumes nothing.
+use Prim.Native.Nat.{ℕ}
+use mathlib.Core.Path.{_≡_, sym, _∙_}
+use mathlib.Core.List.{List}
+use lib.ListN.{length}
+use Rattle.field.specs.Bytes.{put, zeroes}
+use Rattle.field.proofs.Part.{put-whole}
+use Rattle.field.proofs.Zero.{length-zeroes}
 use borrow.Author.Needs.{needs}
-use Rattle.recovering.proofs.blanked.Statement.{statement}
-use Rattle.recovering.proofs.blanked.Tie as tie
+use Rattle.waking.proofs.blanked.Statement.{statement}
+use Rattle.waking.proofs.blanked.Tie as tie
+
+-- zeros over all pages
+all-blank : (w : List ℕ) → length w ≡ 16384 → put 0 (zeroes 16384) w ≡ zeroes 16384
+all-blank w h = put-whole (zeroes 16384) w (length-zeroes 16384 ∙ sym h)
 
 clear-requires : tie.Need-clear-requires
 clear-requires c κs = search needs

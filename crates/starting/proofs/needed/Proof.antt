@@ -1,10 +1,10 @@
--- `beginning::needed` meets its contract: the LB that is written is read as the unit. Assumes nothing.
+-- `starting::needed` meets its contract: the LB that is written is read as the unit. Assumes nothing.
 use native.Mathlib.Omega.{arith}
 use mathlib.Core.Path.{refl}
-use Rattle.beginning.proofs.Units.{read-back, plan-some}
+use Rattle.starting.proofs.Units.{read-back, plan-some}
 use borrow.Author.Needs.{needs}
-use Rattle.beginning.proofs.needed.Statement.{statement}
-use Rattle.beginning.proofs.needed.Tie as tie
+use Rattle.starting.proofs.needed.Statement.{statement}
+use Rattle.starting.proofs.needed.Tie as tie
 
 slice-aggregate-put-record : tie.Need-slice-aggregate-put-record
 slice-aggregate-put-record c = search needs

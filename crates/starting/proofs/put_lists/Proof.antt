@@ -1,11 +1,11 @@
--- `beginning::put_lists` meets its contract: the lists are lent as far as they are filled. Assumes nothing.
+-- `starting::put_lists` meets its contract: the lists are lent as far as they are filled. Assumes nothing.
 use native.Mathlib.Omega.{arith}
 use lib.ListN.{length-take}
 use Rattle.log.specs.Write.{beginOf}
-use Rattle.beginning.specs.Begins.{recordOf}
+use Rattle.starting.specs.Begins.{recordOf}
 use borrow.Author.Needs.{needs}
-use Rattle.beginning.proofs.put_lists.Statement.{statement}
-use Rattle.beginning.proofs.put_lists.Tie as tie
+use Rattle.starting.proofs.put_lists.Statement.{statement}
+use Rattle.starting.proofs.put_lists.Tie as tie
 
 cast-i : tie.Need-cast-i
 cast-i c = search needs

@@ -1,14 +1,14 @@
--- `beginning::begun` meets its contract: a law for each of its answers. Assumes nothing.
+-- `starting::begun` meets its contract: a law for each of its answers. Assumes nothing.
 use native.Mathlib.Omega.{arith}
 use Rattle.field.specs.Bytes.{Bytes}
 use Rattle.log.specs.Plan.{plan}
 use Rattle.unit.proofs.Rooms.{plan-few}
-use Rattle.beginning.specs.Begins.{recordOf}
-use Rattle.beginning.proofs.Units.{room-most}
-use Rattle.beginning.proofs.Begins.{lb-long, unit-room, unit-number, unit-last, unit-begun}
+use Rattle.starting.specs.Begins.{recordOf}
+use Rattle.starting.proofs.Units.{room-most}
+use Rattle.starting.proofs.Starts.{lb-long, unit-room, unit-number, unit-last, unit-begun}
 use borrow.Author.Needs.{needs}
-use Rattle.beginning.proofs.begun.Statement.{statement}
-use Rattle.beginning.proofs.begun.Tie as tie
+use Rattle.starting.proofs.begun.Statement.{statement}
+use Rattle.starting.proofs.begun.Tie as tie
 
 needed-requires : tie.Need-needed-requires
 needed-requires c κs = search needs

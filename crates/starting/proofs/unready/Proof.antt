@@ -1,10 +1,10 @@
--- `beginning::unready` meets its contract: a test each. Assumes nothing.
+-- `starting::unready` meets its contract: a test each. Assumes nothing.
 use mathlib.Core.Path.{sym, _∙_}
 use borrow.Author.Tests.{not-false}
-use Rattle.beginning.proofs.Begins.{unready-open!, unready-pages!, unready-tree!, unready-none! }
+use Rattle.starting.proofs.Starts.{unready-open!, unready-pages!, unready-tree!, unready-none! }
 use borrow.Author.Needs.{needs}
-use Rattle.beginning.proofs.unready.Statement.{statement}
-use Rattle.beginning.proofs.unready.Tie as tie
+use Rattle.starting.proofs.unready.Statement.{statement}
+use Rattle.starting.proofs.unready.Tie as tie
 
 returns : tie.Need-returns
 returns c = search unready-open!

@@ -4,11 +4,11 @@
 ghost use mathlib.Core.Path.{_≡_};
 ghost use mathlib.Core.List.{[], _∷_};
 ghost use Rattle.field.specs.Test.{pick};
-ghost use Rattle.range.specs.Reading.{startFrom, nextFrom};
+ghost use Rattle.ranging.specs.Reading.{startFrom, nextFrom};
 ghost use Rattle.store.specs.Calls.{lent, left, build, recover, beginCompact, beginOrder, step, flush, force, checkpoint, find, list};
 use answering::Listed;
-use range::steps::Reached;
-use range::steps::Step;
+use ranging::Reached;
+use ranging::Step;
 use recovering::Recovered;
 use store::Numbers;
 use tree::find::Found;

@@ -138,7 +138,7 @@ pub extern "C" fn uhtlight_find(n: &mut Numbers, work: &[u8], log: &[u8], key: u
     ensures found { λ r. ⌜ left (r .reply) (r .value) (lent (now (n .exit) .used) (now (n .exit) .forced) (now (work .entry)) [] (now (log .entry)) [])
         ≡ find key (lent (now (n .entry) .used) (now (n .entry) .forced) (now (work .entry)) [] (now (log .entry)) []) ⌝ }
 {
-    let a = answering::find(*n, work, log, key);
+    let a = finding::find(*n, work, log, key);
     *n = a.numbers;
     a.found
 }

@@ -1,4 +1,4 @@
-// Find.
+// Find, which answers from the pages and changes nothing.
 ghost use mathlib.Core.Path.{_≡_};
 ghost use mathlib.Core.List.{[]};
 ghost use Rattle.field.specs.Bytes.{zeroes};

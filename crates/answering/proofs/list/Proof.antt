@@ -1,11 +1,11 @@
--- `answering::listing::list` meets its contract: a law for each of its answers. Assumes nothing.
+-- `answering::list` meets its contract: a law for each of its answers. Assumes nothing.
 use mathlib.Core.Path.{sym, _∙_}
 use borrow.Author.Tests.{not-false}
 use Rattle.tree.specs.Walk.{InForm}
 use Rattle.answering.proofs.Lists.{list-work!, list-log!, list-form!, list-busy!, list-pages!, list-tree!, list-all! }
 use borrow.Author.Needs.{needs}
-use Rattle.answering.proofs.listing.list.Statement.{statement}
-use Rattle.answering.proofs.listing.list.Tie as tie
+use Rattle.answering.proofs.list.Statement.{statement}
+use Rattle.answering.proofs.list.Tie as tie
 
 -- the pages are in form, where that was tested
 in-form : (c : tie.Else5) → InForm (c .before .before .before .before .before .before .before .before .before .before .before .before .args .work .now)

@@ -1,10 +1,10 @@
--- `answering::looking::find` meets its contract: a law for each of its answers. Assumes nothing.
+-- `finding::find` meets its contract: a law for each of its answers. Assumes nothing.
 use mathlib.Core.Path.{sym, _∙_}
 use borrow.Author.Tests.{not-true, not-false}
 use Rattle.store.proofs.Passed.{find-work!, find-log!, find-form!, find-busy!, find-found! }
 use borrow.Author.Needs.{needs}
-use Rattle.answering.proofs.looking.find.Statement.{statement}
-use Rattle.answering.proofs.looking.find.Tie as tie
+use Rattle.finding.proofs.find.Statement.{statement}
+use Rattle.finding.proofs.find.Tie as tie
 
 without-requires : tie.Need-without-requires
 without-requires c κs = search needs

@@ -1,8 +1,8 @@
--- `answering::looking::without` meets its contract. Assumes nothing.
+-- `finding::without` meets its contract. Assumes nothing.
 use mathlib.Core.Path.{refl}
 use Rattle.field.specs.Bytes.{zeroes}
-use Rattle.answering.proofs.looking.without.Statement.{statement}
-use Rattle.answering.proofs.looking.without.Tie as tie
+use Rattle.finding.proofs.without.Statement.{statement}
+use Rattle.finding.proofs.without.Tie as tie
 
 returns : tie.Need-returns
 unfolding zeroes

@@ -9,7 +9,7 @@
 
 use second::bytes::{page_of_mut, put32, LOG_BYTES, PAGES_BYTES, PAGE_COUNT};
 use second::chance::Chance;
-use second::harm::{any_call, harm, random_state};
+use second::harm::{any_call, harm, random_state, some_bytes};
 use second::log::{Begin, Record, Type};
 use second::page::Body;
 use second::reply::{pairs, Pair, ORDER};
@@ -119,6 +119,7 @@ fn begun_in(free: usize, check: u32) -> State {
         bases: vec![1],
         leaves: vec![8, 9],
         destination: 8,
+        row: None,
     };
     state.append(log.last() + 1, &Record::Begin(begin));
     for place in 0..PAGE_COUNT as u16 {
@@ -138,6 +139,7 @@ fn begun_at(check: u32) -> State {
         bases: vec![1],
         leaves: vec![8, 9],
         destination: 8,
+        row: None,
     };
     state.append(check + 1, &Record::Begin(begin));
     state
@@ -338,7 +340,7 @@ fn random_damage_is_refused_or_does_no_harm() {
         for _ in 0..12 {
             let call = any_call(&mut chance);
             let mut lent = state.clone();
-            lent.bytes = vec![0; chance.within(0, 40) as usize];
+            lent.bytes = some_bytes(&mut chance, &call);
             harm(&mut chance, &mut lent);
             let reply = make(call, &lent, &format!("seed {seed}"));
             met.insert((call.name(), reply));

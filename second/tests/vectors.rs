@@ -69,6 +69,8 @@ fn call(name: &str, arguments: &[u32]) -> Call {
         ("recover", []) => Call::Recover,
         ("begin_compact", &[fill]) => Call::BeginCompact { fill },
         ("begin_order", []) => Call::BeginOrder,
+        ("put", []) => Call::Put,
+        ("delete", &[key]) => Call::Delete { key },
         ("step", []) => Call::Step,
         ("flush", &[page]) => Call::Flush { page },
         ("force", []) => Call::Force,

@@ -13,7 +13,7 @@ use crate::chance::Chance;
 use crate::harm::{harm, random_state};
 use crate::listing::listing;
 use crate::reply;
-use crate::state::{shape, Call, State};
+use crate::state::{Call, State};
 use std::collections::BTreeMap;
 use std::io;
 
@@ -65,8 +65,8 @@ fn image(state: &State) -> Vec<u8> {
 
 fn images() -> Vec<Vec<u8>> {
     let mut all = lengths();
-    for (begin, tree) in cuts::units() {
-        all.extend(half_done(begin, State::made(&shape(tree), 1, 0, None)));
+    for (begin, start) in cuts::units() {
+        all.extend(half_done(begin, start));
     }
     all.push(image(&State::built(&[], 1, 1)));
     for seed in 1..=LARGEST {

@@ -2,7 +2,10 @@
 //! compares programs must tell each of them from the second program.
 //!
 //! The first four are those of document 01's "Easy to get wrong". Each fault
-//! lends the right call something wrong, or changes what it leaves.
+//! lends the right call something wrong, or changes what it leaves. Those of
+//! puts and deletes are in `saves`.
+
+mod saves;
 
 use crate::bytes::{get32, page_of, page_of_mut, put32, Numbers, PAGES_BYTES, PAGE_COUNT};
 use crate::log::{Log, Open, Record, Step, BEGIN_BYTES, CHECK_BYTES};
@@ -17,7 +20,7 @@ pub struct Fault {
     pub program: &'static Program<'static>,
 }
 
-pub const FAULTS: [Fault; 24] = [
+pub const FAULTS: [Fault; 46] = [
     named("in-repeated", &in_repeated),
     named("swap-by-pointer", &swap_by_pointer),
     named("room-for-next", &room_for_next),
@@ -42,6 +45,28 @@ pub const FAULTS: [Fault; 24] = [
     named("walk-of-open-unit", &walk_of_open_unit),
     named("build-first-key", &build_first_key),
     named("build-keeps-store", &build_keeps_store),
+    named("neighbour-not-lowered", &saves::neighbour_not_lowered),
+    named("base-not-lowered", &saves::base_not_lowered),
+    named("root-not-lowered", &saves::root_not_lowered),
+    named("joins-right", &saves::joins_right),
+    named("split-at-seven", &saves::split_at_seven),
+    named("image-own-number", &saves::image_own_number),
+    named("image-at-once", &saves::image_at_once),
+    named("image-any-number", &saves::image_any_number),
+    named("images-not-compared", &saves::images_not_compared),
+    named("images-copied-last", &saves::images_copied_last),
+    named("end-over-newer", &saves::end_over_newer),
+    named("end-forgets-page", &saves::end_forgets_page),
+    named("begun-not-counted", &saves::begun_not_counted),
+    named("begun-counted-twice", &saves::begun_counted_twice),
+    named("lk-moved-by-put", &saves::lk_moved_by_put),
+    named("save-room-for-next", &save_room_for_next),
+    named("put-of-many", &saves::put_of_many),
+    named("put-mark-unread", &saves::put_mark_unread),
+    named("delete-keeps-value", &saves::delete_keeps_value),
+    named("number-for-next", &saves::number_for_next),
+    named("find-while-saving", &saves::find_while_saving),
+    named("find-of-begun", &saves::find_of_begun),
 ];
 
 const fn named(name: &'static str, program: &'static Program<'static>) -> Fault {
@@ -132,22 +157,36 @@ fn by_pointer(log: &Log, work: &[u8]) -> Option<Record> {
 fn room_for_next(call: &Call, state: &mut State) -> Answer {
     let answer = call.on(state);
     let begin = matches!(call, Call::BeginCompact { .. } | Call::BeginOrder);
-    let used = state.numbers.used as usize;
-    let room = state.log.len().saturating_sub(used) >= BEGIN_BYTES;
-    if !(begin && answer.reply == reply::ROOM && room) {
-        return answer;
+    match begin && answer.reply == reply::ROOM {
+        true => begun_in_room(call, state).unwrap_or(answer),
+        false => answer,
     }
-    // The same begin after a log of one check record.
+}
+
+/// The same of a put and a delete.
+fn save_room_for_next(call: &Call, state: &mut State) -> Answer {
+    let answer = call.on(state);
+    let begin = matches!(call, Call::Put | Call::Delete { .. });
+    match begin && answer.reply == reply::ROOM {
+        true => begun_in_room(call, state).unwrap_or(answer),
+        false => answer,
+    }
+}
+
+/// Begins as after a log of one check record, where the begin record fits.
+fn begun_in_room(call: &Call, state: &mut State) -> Option<Answer> {
     let log = state.read_log();
     let mut short = state.clone();
     short.set_check(log.last(), log.unit, log.lk);
     let answer = call.on(&mut short);
-    if answer.reply == reply::DONE {
-        let begin = &short.log[CHECK_BYTES..CHECK_BYTES + BEGIN_BYTES];
-        state.log[used..used + BEGIN_BYTES].copy_from_slice(begin);
-        state.numbers.used += BEGIN_BYTES as u32;
+    let begin = &short.log[CHECK_BYTES..short.numbers.used as usize];
+    let room = log.end()..log.end() + begin.len();
+    if answer.reply == reply::DONE && room.end <= state.log.len() {
+        state.log[room.clone()].copy_from_slice(begin);
+        state.numbers.used = room.end as u32;
+        return Some(answer);
     }
-    answer
+    None
 }
 
 /// Recovery finds a begin record alone and chooses the unit afresh, with the

@@ -615,7 +615,8 @@ impl World<'_> {
         let why = |what: &str| format!("recovery gave {answer:?}: {what}");
         ensure(answer.reply == reply::DONE, || why("refused"))?;
         let after = self.log()?;
-        let growth = (after.records.len() - found.records.len()) as u32;
+        let growth = after.records.len().checked_sub(found.records.len());
+        let growth = growth.ok_or_else(|| why("records of the log lost"))? as u32;
         ensure(answer.values == Values::Count(growth), || why("count"))?;
         ensure(growth <= MOST_APPENDED, || why("too many"))?;
         ensure(after.open.is_none(), || why("a unit is open"))?;

@@ -9,7 +9,7 @@ use std::path::PathBuf;
 use std::process::{Command, Output};
 
 /// Calls to make: those of the scripts made by hand, and some hundreds more.
-const CALLS: &str = "2800";
+const CALLS: &str = "4600";
 /// The faults that build, find, list and the range reader alone can show.
 const READING_FAULTS: [&str; 9] = [
     "longer-lent",

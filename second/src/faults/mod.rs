@@ -8,7 +8,7 @@
 mod saves;
 
 use crate::bytes::{get32, page_of, page_of_mut, put32, Numbers, PAGES_BYTES, PAGE_COUNT};
-use crate::log::{Log, Open, Record, Step, BEGIN_BYTES, CHECK_BYTES};
+use crate::log::{Log, Record, Step, BEGIN_BYTES, CHECK_BYTES};
 use crate::page::{read_page, read_pages, Body, ROW_BYTES};
 use crate::runs::Program;
 use crate::state::{Answer, Call, State, Values};
@@ -130,8 +130,7 @@ fn swap_by_pointer(call: &Call, state: &mut State) -> Answer {
 }
 
 fn by_pointer(log: &Log, work: &[u8]) -> Option<Record> {
-    let Open { steps, done, .. } = log.open.as_ref()?;
-    let (base, old, new) = match steps[*done] {
+    let (base, old, new) = match *log.open.as_ref()?.remaining().first()? {
         Step::Point {
             base,
             old,

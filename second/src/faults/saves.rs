@@ -283,11 +283,12 @@ pub(super) fn end_over_newer(call: &Call, state: &mut State) -> Answer {
         }
         return with_store(call, state, store);
     }
+    let Some(forward) = Work::of(call, state) else {
+        return call.on(state);
+    };
     let work = state.work.clone();
-    if *call == Call::Step && work.len() == PAGES_BYTES {
-        for (place, _) in log.open_images() {
-            put32(page_of_mut(&mut state.work, place), 4, 0);
-        }
+    for (place, _) in forward.images {
+        put32(page_of_mut(&mut state.work, place), 4, 0);
     }
     let answer = call.on(state);
     if state.read_log().open.is_some() {
@@ -480,12 +481,14 @@ pub(super) fn find_of_begun(call: &Call, state: &mut State) -> Answer {
 
 /// A put's end leaves the first of its pages as it was.
 pub(super) fn end_forgets_page(call: &Call, state: &mut State) -> Answer {
+    let forward = Work::of(call, state).filter(|_| *call == Call::Step);
     let work = state.work.clone();
-    let images = Work::of(call, state).map_or(Images::new(), |work| work.images);
     let answer = call.on(state);
-    let ended = answer.reply == reply::DONE && state.read_log().open.is_none();
-    if let (Call::Step, Some((place, _)), true) = (call, images.first(), ended) {
-        page_of_mut(&mut state.work, *place).copy_from_slice(page_of(&work, *place));
+    if let Some(forward) = forward {
+        let (place, _) = forward.images[0];
+        if state.read_log().open.is_none() {
+            page_of_mut(&mut state.work, place).copy_from_slice(page_of(&work, place));
+        }
     }
     answer
 }

@@ -11,6 +11,7 @@
 
 mod fields;
 mod plain;
+mod saves;
 mod steps;
 mod units;
 
@@ -21,7 +22,8 @@ use crate::log::{Begin, Record, Type};
 use crate::page::{Body, Entry, Row};
 use crate::runs::random_shape;
 use crate::state::{
-    put_page, record_bytes, row, shape, BaseShape, Call, LeafShape, ShortBase, State, Values,
+    put_page, record_bytes, row, row_bytes, shape, BaseShape, Call, LeafShape, ShortBase, State,
+    Values,
 };
 
 /// A call with the state it is made on.
@@ -65,6 +67,12 @@ pub fn cases() -> Vec<Case> {
     cases.flushes();
     cases.lengths();
     cases.first_tests();
+    cases.saves();
+    cases.saves_refused();
+    cases.saves_cut();
+    cases.saves_forged();
+    cases.saves_images();
+    cases.saves_fields();
     cases.random();
     cases.0
 }

@@ -123,16 +123,6 @@ impl Step {
             Step::End => None,
         }
     }
-
-    /// The mark of the record that the step appends.
-    pub fn mark(&self) -> &'static str {
-        match self {
-            Step::Out { .. } => "LO",
-            Step::In { .. } => "LI",
-            Step::Point { .. } | Step::Remove { .. } => "LM",
-            Step::End => "LE",
-        }
-    }
 }
 
 impl Begin {

@@ -339,7 +339,7 @@ fn crowded_trees_refuse_a_split_alone() {
     for (leaves, under) in [(56, 10), (30, 30)] {
         let mut tree = shape(&[]);
         for (at, page) in (8..8 + leaves as u16).enumerate() {
-            if at as u32 % under == 0 {
+            if (at as u32).is_multiple_of(under) {
                 let page = tree.len() as u16 + 1;
                 tree.extend(shape(&[(page, &[])]));
             }

@@ -143,12 +143,11 @@ impl Begin {
     /// for a put or a delete, whose steps follow from the pages.
     pub fn steps(&self) -> Vec<Step> {
         let mut steps = Vec::new();
-        if self.row.is_some() {
+        let Some(&base) = self.bases.first() else {
             return steps;
-        }
-        let base = self.bases[0];
+        };
         match self.kind {
-            Type::Put | Type::Delete => {}
+            Type::Put | Type::Delete => return steps,
             Type::Compact => {
                 let dest = self.destination;
                 for &org in self.leaves.iter().filter(|&&leaf| leaf != dest) {

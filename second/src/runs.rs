@@ -9,7 +9,8 @@
 //!
 //! Every second run saves: most of its calls are puts and deletes, of keys
 //! that are there, near them and at the ends of the range. Some trees are
-//! crowded, some have a record or two or none.
+//! crowded, some have a record or two or none; some numbers start near the
+//! last one.
 //!
 //! After each recovery every clause of demand 3 is tested: reply 0, a
 //! well-formed tree, the records of the start after the surviving begun puts
@@ -36,8 +37,15 @@ pub type Program<'a> = dyn Fn(&Call, &mut State) -> Answer + 'a;
 /// log.
 pub type Judge<'a> = dyn Fn(&[Row], &Log) -> Vec<Row> + 'a;
 
-/// Most records that a recovery may append.
-const MOST_APPENDED: u32 = 25;
+/// Most records that a recovery may append: 25, of a put 4, of a delete 5.
+fn most_appended(found: &Log) -> u32 {
+    match found.open.as_ref().map(|open| open.begin.kind) {
+        None => 0,
+        Some(Type::Put) => 4,
+        Some(Type::Delete) => 5,
+        Some(_) => 25,
+    }
+}
 
 /// What runs have done.
 #[derive(Clone, Default, Debug, PartialEq, Eq)]
@@ -215,8 +223,8 @@ impl World<'_> {
             }
             _ => random_shape(&mut self.chance),
         };
-        let number = self.chance.within(0, 1000) as u32;
-        let unit = self.chance.within(0, 1000) as u32;
+        let number = self.early_or_late();
+        let unit = self.early_or_late();
         let lk = self
             .chance
             .one_in(3)
@@ -236,6 +244,14 @@ impl World<'_> {
         self.forced = 1;
         self.rubbish();
         self.recover()
+    }
+
+    /// A log or unit number, now and then one near the last.
+    fn early_or_late(&mut self) -> u32 {
+        match self.chance.one_in(12) {
+            true => u32::MAX - self.chance.within(0, 200) as u32,
+            false => self.chance.within(0, 1000) as u32,
+        }
     }
 
     /// A build, accepted or refused.
@@ -618,7 +634,7 @@ impl World<'_> {
         let growth = after.records.len().checked_sub(found.records.len());
         let growth = growth.ok_or_else(|| why("records of the log lost"))? as u32;
         ensure(answer.values == Values::Count(growth), || why("count"))?;
-        ensure(growth <= MOST_APPENDED, || why("too many"))?;
+        ensure(growth <= most_appended(&found), || why("too many"))?;
         ensure(after.open.is_none(), || why("a unit is open"))?;
         let pages = read_pages(&self.state.work).ok_or_else(|| why("page form"))?;
         let leaves = tree::leaves(&pages).ok_or_else(|| why("tree"))?;

@@ -13,7 +13,7 @@ use crate::bytes::{get32, LOG_BYTES, PAGE_BYTES, PAGE_COUNT};
 use crate::chance::Chance;
 use crate::drive::LARGEST_UNIT;
 use crate::log::CHECK_BYTES;
-use crate::page::{Row, LEAVES, MOST_ROWS};
+use crate::page::{Row, LEAVES, MOST_ROWS, ROW_BYTES};
 use crate::reply;
 use crate::state::{record_bytes, row_bytes, shape, BaseShape, Call, LeafShape, ShortBase, State};
 use std::fmt;
@@ -167,30 +167,39 @@ fn measures() -> Vec<Measure> {
                 add(&name, log, &state, call);
             }
         }
+        let puts = full_of_puts(&start);
+        add("find", "full of puts", &puts, Call::Find { key: 4200 });
+        add("recover", "full of puts", &puts, Call::Recover);
     }
     all.push(Measure {
         name: "recover, the largest unit half done, 15 records, log short".to_string(),
         state: half_done(&State::made(&shape(LARGEST_UNIT), 1, 0, None)),
         call: Call::Recover,
     });
+    all.extend(split_measures());
+    all
+}
+
+/// A put that splits one of 55 full leaves.
+fn split_measures() -> Vec<Measure> {
     let mut tree = falling(RECORDS);
     tree[0].leaves.pop();
     let split = State::made(&tree, 1, 0, None).lending(some_row(15));
-    all.push(Measure {
-        name: "put that splits, 825 records, log short".to_string(),
-        state: split.clone(),
-        call: Call::Put,
-    });
-    let mut open = split;
+    let mut open = split.clone();
     open.done(Call::Put);
-    for (name, state) in steps_of(open) {
-        all.push(Measure {
-            name: format!("put that splits, {name}, 825 records, log short"),
+    let steps = steps_of(open);
+    let steps = steps.into_iter().map(|(step, state)| {
+        let name = format!("put that splits, {step}");
+        (name, state, Call::Step)
+    });
+    std::iter::once(("put that splits".to_string(), split, Call::Put))
+        .chain(steps)
+        .map(|(name, state, call)| Measure {
+            name: format!("{name}, 825 records, log short"),
             state,
-            call: Call::Step,
-        });
-    }
-    all
+            call,
+        })
+        .collect()
 }
 
 /// The open unit before each kind of step comes first, each named by the mark
@@ -215,34 +224,45 @@ fn some_row(key: u32) -> Row {
     Row { key, value }
 }
 
-/// Puts and deletes in the leaf in the midst of this tree, and the steps of the
-/// one that replaces.
-fn saves_on(state: &State) -> Vec<(String, State, Call)> {
+/// The first key from 4,200 on.
+fn middle_key(state: &State) -> u32 {
     let mut listed = state.clone();
-    listed.bytes = vec![0; 16 * RECORDS];
     listed.set_check(1, 0, None);
-    let all = Call::List {
+    listed.bytes = vec![0; ROW_BYTES];
+    listed.done(Call::List {
         low: 4200,
         high: u32::MAX,
-    };
-    listed.done(all);
-    let key = get32(&listed.bytes, 2);
+    });
+    get32(&listed.bytes, 2)
+}
+
+/// Puts and deletes in the midst of this tree, and the steps of the put that
+/// replaces.
+fn saves_on(state: &State) -> Vec<(String, State, Call)> {
+    let key = middle_key(state);
     let replaces = state.lending(some_row(key));
+    let adds = state.lending(some_row(key + 1));
+    let mut open = replaces.clone();
+    open.done(Call::Put);
     let mut saves = vec![
-        ("put that replaces".to_string(), replaces.clone(), Call::Put),
-        (
-            "put that adds".to_string(),
-            state.lending(some_row(key + 1)),
-            Call::Put,
-        ),
+        ("put that replaces".to_string(), replaces, Call::Put),
+        ("put that adds".to_string(), adds, Call::Put),
         ("delete".to_string(), state.clone(), Call::Delete { key }),
     ];
-    let mut open = replaces;
-    open.done(Call::Put);
-    for (name, state) in steps_of(open) {
-        saves.push((format!("put that replaces, {name}"), state, Call::Step));
+    for (step, state) in steps_of(open) {
+        saves.push((format!("put that replaces, {step}"), state, Call::Step));
     }
     saves
+}
+
+/// The same tree with a log full of puts that replace one record, nothing of
+/// them flushed.
+fn full_of_puts(state: &State) -> State {
+    let mut state = state.lending(some_row(middle_key(state)));
+    while Call::Put.on(&mut state).reply == reply::DONE {
+        state.finish();
+    }
+    state
 }
 
 /// The unit that begins here with half of its records, nothing flushed.

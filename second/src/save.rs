@@ -52,33 +52,61 @@ fn lowest_empty_leaf(pages: &[Page]) -> Option<u16> {
         .find(|&page| pages[page as usize].body == Body::Empty)
 }
 
+/// The way down to a key: the entries of the root and of the base page, the
+/// place of the one that is taken in each, and the leaf's records.
+struct Way {
+    root: Vec<Entry>,
+    of_base: usize,
+    base: u16,
+    level: Vec<Entry>,
+    of_leaf: usize,
+    leaf: u16,
+    rows: Vec<Row>,
+}
+
+impl Way {
+    /// None where the root has no entries.
+    fn down(pages: &[Page], key: u32) -> Option<Way> {
+        let root = entries(pages, 0);
+        let of_base = entry_for(&root, key)?;
+        let base = root[of_base].page;
+        let level = entries(pages, base);
+        let of_leaf = entry_for(&level, key)?;
+        let leaf = level[of_leaf].page;
+        Some(Way {
+            rows: rows(pages, leaf),
+            root,
+            of_base,
+            base,
+            level,
+            of_leaf,
+            leaf,
+        })
+    }
+}
+
 /// The record in its leaf, replaced or added; a leaf of 16 splits.
 fn put(pages: &[Page], row: Row) -> Result<Changes, u8> {
-    let root = entries(pages, 0);
-    let Some(of_base) = entry_for(&root, row.key) else {
+    let Some(mut way) = Way::down(pages, row.key) else {
         return first(pages, row);
     };
-    let base = root[of_base].page;
-    let mut level = entries(pages, base);
-    let at = entry_for(&level, row.key).ok_or(reply::TREE)?;
-    let leaf = level[at].page;
-    let mut held = rows(pages, leaf);
-    match held.binary_search_by_key(&row.key, |held| held.key) {
-        Ok(there) => held[there] = row,
-        Err(between) => held.insert(between, row),
+    match way.rows.binary_search_by_key(&row.key, |held| held.key) {
+        Ok(there) => way.rows[there] = row,
+        Err(between) => way.rows.insert(between, row),
     }
-    let mut changes = Changes::new();
-    if held.len() > MOST_ROWS {
-        let new = lowest_empty_leaf(pages).filter(|_| level.len() < MOST_ENTRIES);
-        let page = new.ok_or(reply::CROWDED)?;
-        let upper = held.split_off(STAY);
-        let key = upper[0].key;
-        level.insert(at + 1, Entry { key, page });
-        changes.insert(base, Body::Base(level));
-        changes.insert(page, Body::Leaf(upper));
+    if way.rows.len() <= MOST_ROWS {
+        return Ok(Changes::from([(way.leaf, Body::Leaf(way.rows))]));
     }
-    changes.insert(leaf, Body::Leaf(held));
-    Ok(changes)
+    let page = lowest_empty_leaf(pages).filter(|_| way.level.len() < MOST_ENTRIES);
+    let page = page.ok_or(reply::CROWDED)?;
+    let upper = way.rows.split_off(STAY);
+    let key = upper[0].key;
+    way.level.insert(way.of_leaf + 1, Entry { key, page });
+    Ok(Changes::from([
+        (way.base, Body::Base(way.level)),
+        (way.leaf, Body::Leaf(way.rows)),
+        (page, Body::Leaf(upper)),
+    ]))
 }
 
 /// The first record of a tree that has none.
@@ -92,35 +120,34 @@ fn first(pages: &[Page], row: Row) -> Result<Changes, u8> {
     ]))
 }
 
-/// The record out of its leaf; an emptied leaf's range, and an emptied base
-/// page's, is joined to a neighbour's.
+/// The record out of its leaf, which may become empty.
 fn delete(pages: &[Page], key: u32) -> Result<Changes, u8> {
-    let mut root = entries(pages, 0);
-    let of_base = entry_for(&root, key).ok_or(reply::ABSENT)?;
-    let base = root[of_base].page;
-    let mut level = entries(pages, base);
-    let at = entry_for(&level, key).ok_or(reply::TREE)?;
-    let leaf = level[at].page;
-    let mut held = rows(pages, leaf);
-    let there = held.iter().position(|row| row.key == key);
-    held.remove(there.ok_or(reply::ABSENT)?);
-    if !held.is_empty() {
-        return Ok(Changes::from([(leaf, Body::Leaf(held))]));
+    let mut way = Way::down(pages, key).ok_or(reply::ABSENT)?;
+    let there = way.rows.iter().position(|row| row.key == key);
+    way.rows.remove(there.ok_or(reply::ABSENT)?);
+    Ok(match way.rows.is_empty() {
+        true => emptied(pages, way),
+        false => Changes::from([(way.leaf, Body::Leaf(way.rows))]),
+    })
+}
+
+/// An emptied leaf's range, and an emptied base page's, is joined to a
+/// neighbour's.
+fn emptied(pages: &[Page], mut way: Way) -> Changes {
+    let mut changes = Changes::from([(way.leaf, Body::Empty)]);
+    join(&mut way.level, way.of_leaf);
+    if !way.level.is_empty() {
+        changes.insert(way.base, Body::Base(way.level));
+        return changes;
     }
-    let mut changes = Changes::from([(leaf, Body::Empty)]);
-    join(&mut level, at);
-    if !level.is_empty() {
-        changes.insert(base, Body::Base(level));
-        return Ok(changes);
-    }
-    changes.insert(base, Body::Empty);
-    if let Some(right) = join(&mut root, of_base) {
+    changes.insert(way.base, Body::Empty);
+    if let Some(right) = join(&mut way.root, way.of_base) {
         let mut level = entries(pages, right.page);
         level[0].key = right.key;
         changes.insert(right.page, Body::Base(level));
     }
-    changes.insert(0, Body::Root(root));
-    Ok(changes)
+    changes.insert(0, Body::Root(way.root));
+    changes
 }
 
 /// Takes out an entry. Its range joins that of the entry on its left; where

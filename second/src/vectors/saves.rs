@@ -336,14 +336,22 @@ impl Cases {
                 &append(&at(&thin, check, 0), &[begin_put(1, 25)]),
             );
         }
-        let first = image(3, LAST, Body::Base(vec![Entry { key: 0, page: 8 }]));
         for check in [LAST - 2, LAST - 3] {
-            let records = [begin_put(1, 75), first.clone()];
+            let records = [begin_put(1, 75), image(3, LAST, split_base())];
             both(
                 "number-past",
                 &append(&at(&full_leaf(), check, 0), &records),
             );
         }
+        // Images that are right, but for a number that has wrapped.
+        let records = [begin_put(1, 75), image(3, 1, split_base())];
+        both(
+            "number-past",
+            &append(&at(&full_leaf(), LAST - 3, 0), &records),
+        );
+        let body = leaf(&[row(10), row(20), other(25)]);
+        let records = [begin_put(1, 25), image(8, 0, body)];
+        both("number-past", &append(&at(&thin, LAST - 2, 0), &records));
         self.saves_without_room();
     }
 
@@ -478,6 +486,18 @@ impl Cases {
             other.log[start + length as usize..].fill(0);
             other.numbers.used = (start + length as usize) as u32;
             self.add("log-field", Call::Force, &other);
+        }
+        // A tidying begin record that carries a record.
+        for (begin, tree) in [
+            (COMPACT, row_nine()),
+            (Call::BeginOrder, row_nine()),
+            (Call::BeginOrder, row_eight()),
+        ] {
+            let mut state = after(&tree, begin);
+            state.log[start + 2] += 16;
+            row(30).write(&mut state.log[start + BEGIN_BYTES..]);
+            state.numbers.used += 16;
+            self.add("log-field", Call::Force, &state);
         }
         self.image_fields(&put);
         self.saves_order(&put);

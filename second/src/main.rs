@@ -68,7 +68,7 @@ fn serve(program: &runs::Program) -> Result<(), String> {
 }
 
 fn serve_fault(name: &str) -> Result<(), String> {
-    let names: Vec<&str> = faults::FAULTS.iter().map(|fault| fault.name).collect();
+    let names: Vec<&str> = faults::all().map(|fault| fault.name).collect();
     match faults::fault(name) {
         Some(program) => serve(program),
         None => Err(format!("faults: {}", names.join(" "))),

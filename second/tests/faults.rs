@@ -3,7 +3,7 @@
 //! without a fault, driven alike, must show no difference, and a program that
 //! answers nothing must fail.
 
-use second::faults::FAULTS;
+use second::faults::{FAULTS, SAVE_FAULTS};
 use std::fs;
 use std::path::PathBuf;
 use std::process::{Command, Output};
@@ -66,6 +66,13 @@ fn caught(name: &str, options: &[&str]) {
 #[test]
 fn planted_faults_are_found() {
     for fault in &FAULTS {
+        caught(fault.name, &[]);
+    }
+}
+
+#[test]
+fn planted_faults_of_puts_and_deletes_are_found() {
+    for fault in &SAVE_FAULTS {
         caught(fault.name, &[]);
     }
 }

@@ -7,6 +7,8 @@
 
 mod saves;
 
+pub use saves::SAVE_FAULTS;
+
 use crate::bytes::{get32, page_of, page_of_mut, put32, Numbers, PAGES_BYTES, PAGE_COUNT};
 use crate::log::{Log, Record, Step, BEGIN_BYTES, CHECK_BYTES};
 use crate::page::{read_page, read_pages, Body, ROW_BYTES};
@@ -20,7 +22,8 @@ pub struct Fault {
     pub program: &'static Program<'static>,
 }
 
-pub const FAULTS: [Fault; 46] = [
+/// Faults of document 01's calls.
+pub const FAULTS: [Fault; 24] = [
     named("in-repeated", &in_repeated),
     named("swap-by-pointer", &swap_by_pointer),
     named("room-for-next", &room_for_next),
@@ -45,37 +48,20 @@ pub const FAULTS: [Fault; 46] = [
     named("walk-of-open-unit", &walk_of_open_unit),
     named("build-first-key", &build_first_key),
     named("build-keeps-store", &build_keeps_store),
-    named("neighbour-not-lowered", &saves::neighbour_not_lowered),
-    named("base-not-lowered", &saves::base_not_lowered),
-    named("root-not-lowered", &saves::root_not_lowered),
-    named("joins-right", &saves::joins_right),
-    named("split-at-seven", &saves::split_at_seven),
-    named("image-own-number", &saves::image_own_number),
-    named("image-at-once", &saves::image_at_once),
-    named("image-any-number", &saves::image_any_number),
-    named("images-not-compared", &saves::images_not_compared),
-    named("images-copied-last", &saves::images_copied_last),
-    named("end-over-newer", &saves::end_over_newer),
-    named("end-forgets-page", &saves::end_forgets_page),
-    named("begun-not-counted", &saves::begun_not_counted),
-    named("begun-counted-twice", &saves::begun_counted_twice),
-    named("lk-moved-by-put", &saves::lk_moved_by_put),
-    named("save-room-for-next", &save_room_for_next),
-    named("put-of-many", &saves::put_of_many),
-    named("put-mark-unread", &saves::put_mark_unread),
-    named("delete-keeps-value", &saves::delete_keeps_value),
-    named("number-for-next", &saves::number_for_next),
-    named("find-while-saving", &saves::find_while_saving),
-    named("find-of-begun", &saves::find_of_begun),
 ];
 
 const fn named(name: &'static str, program: &'static Program<'static>) -> Fault {
     Fault { name, program }
 }
 
+/// All faults.
+pub fn all() -> impl Iterator<Item = &'static Fault> {
+    FAULTS.iter().chain(&SAVE_FAULTS)
+}
+
 /// The program with this fault.
 pub fn fault(name: &str) -> Option<&'static Program<'static>> {
-    let fault = FAULTS.iter().find(|fault| fault.name == name);
+    let fault = all().find(|fault| fault.name == name);
     fault.map(|fault| fault.program)
 }
 
@@ -156,16 +142,6 @@ fn by_pointer(log: &Log, work: &[u8]) -> Option<Record> {
 fn room_for_next(call: &Call, state: &mut State) -> Answer {
     let answer = call.on(state);
     let begin = matches!(call, Call::BeginCompact { .. } | Call::BeginOrder);
-    match begin && answer.reply == reply::ROOM {
-        true => begun_in_room(call, state).unwrap_or(answer),
-        false => answer,
-    }
-}
-
-/// The same of a put and a delete.
-fn save_room_for_next(call: &Call, state: &mut State) -> Answer {
-    let answer = call.on(state);
-    let begin = matches!(call, Call::Put | Call::Delete { .. });
     match begin && answer.reply == reply::ROOM {
         true => begun_in_room(call, state).unwrap_or(answer),
         false => answer,

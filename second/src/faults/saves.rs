@@ -2,7 +2,7 @@
 //! step and in recovery, so that such a program agrees with itself: the images
 //! of its open unit are made right for the call, and wrong again after it.
 
-use super::{is_recovery, with_store};
+use super::{begun_in_room, is_recovery, named, with_store, Fault};
 use crate::bytes::{get16, get32, page_of, page_of_mut, put32, PAGES_BYTES};
 use crate::log::{Begin, Log, Record, Type, BEGIN_BYTES, IMAGE_BYTES};
 use crate::page::{Body, Entry, Page, Row, ROW_BYTES};
@@ -10,6 +10,31 @@ use crate::runs::after_saves;
 use crate::state::{row_bytes, Answer, Call, State, Values};
 use crate::tree::read_tree;
 use crate::{reply, save};
+
+pub const SAVE_FAULTS: [Fault; 22] = [
+    named("neighbour-not-lowered", &neighbour_not_lowered),
+    named("base-not-lowered", &base_not_lowered),
+    named("root-not-lowered", &root_not_lowered),
+    named("joins-right", &joins_right),
+    named("split-at-seven", &split_at_seven),
+    named("image-own-number", &image_own_number),
+    named("image-at-once", &image_at_once),
+    named("image-any-number", &image_any_number),
+    named("images-not-compared", &images_not_compared),
+    named("images-copied-last", &images_copied_last),
+    named("end-over-newer", &end_over_newer),
+    named("end-forgets-page", &end_forgets_page),
+    named("begun-not-counted", &begun_not_counted),
+    named("begun-counted-twice", &begun_counted_twice),
+    named("lk-moved-by-put", &lk_moved_by_put),
+    named("save-room-for-next", &save_room_for_next),
+    named("put-of-many", &put_of_many),
+    named("put-mark-unread", &put_mark_unread),
+    named("delete-keeps-value", &delete_keeps_value),
+    named("number-for-next", &number_for_next),
+    named("find-while-saving", &find_while_saving),
+    named("find-of-begun", &find_of_begun),
+];
 
 type Images = Vec<(u16, Page)>;
 
@@ -114,7 +139,7 @@ fn with_old_keys(before: &[Entry], entries: &mut [Entry]) {
 }
 
 /// The right neighbour keeps its key where the first leaf of a base page goes.
-pub(super) fn neighbour_not_lowered(call: &Call, state: &mut State) -> Answer {
+fn neighbour_not_lowered(call: &Call, state: &mut State) -> Answer {
     bent(call, state, |work, images| {
         for (place, image) in images {
             let before = work.entries_before(*place);
@@ -129,7 +154,7 @@ pub(super) fn neighbour_not_lowered(call: &Call, state: &mut State) -> Answer {
 }
 
 /// The base page on the right keeps its first key where the first one goes.
-pub(super) fn base_not_lowered(call: &Call, state: &mut State) -> Answer {
+fn base_not_lowered(call: &Call, state: &mut State) -> Answer {
     bent(call, state, |work, images| {
         for (place, image) in images {
             let before = work.entries_before(*place);
@@ -144,7 +169,7 @@ pub(super) fn base_not_lowered(call: &Call, state: &mut State) -> Answer {
 }
 
 /// The root keeps the key of the base page on the right.
-pub(super) fn root_not_lowered(call: &Call, state: &mut State) -> Answer {
+fn root_not_lowered(call: &Call, state: &mut State) -> Answer {
     bent(call, state, |work, images| {
         for (place, image) in images {
             if let Body::Root(entries) = &mut image.body {
@@ -156,7 +181,7 @@ pub(super) fn root_not_lowered(call: &Call, state: &mut State) -> Answer {
 
 /// An emptied leaf's range joins the right neighbour's, also where there is
 /// one on its left.
-pub(super) fn joins_right(call: &Call, state: &mut State) -> Answer {
+fn joins_right(call: &Call, state: &mut State) -> Answer {
     bent(call, state, |work, images| {
         for (place, image) in images {
             let before = work.entries_before(*place);
@@ -173,7 +198,7 @@ pub(super) fn joins_right(call: &Call, state: &mut State) -> Answer {
 }
 
 /// Of 16 records seven stay.
-pub(super) fn split_at_seven(call: &Call, state: &mut State) -> Answer {
+fn split_at_seven(call: &Call, state: &mut State) -> Answer {
     bent(call, state, |work, images| {
         let leaf = |image: &&mut (u16, Page)| matches!(image.1.body, Body::Leaf(_));
         let mut halves: Vec<&mut (u16, Page)> = images.iter_mut().filter(leaf).collect();
@@ -199,7 +224,7 @@ pub(super) fn split_at_seven(call: &Call, state: &mut State) -> Answer {
 }
 
 /// Each image bears its own record's number.
-pub(super) fn image_own_number(call: &Call, state: &mut State) -> Answer {
+fn image_own_number(call: &Call, state: &mut State) -> Answer {
     bent(call, state, |_, images| {
         let count = images.len() as u32;
         for ((_, image), before_end) in images.iter_mut().zip((1..=count).rev()) {
@@ -209,7 +234,7 @@ pub(super) fn image_own_number(call: &Call, state: &mut State) -> Answer {
 }
 
 /// An image changes its page at once, not with the end.
-pub(super) fn image_at_once(call: &Call, state: &mut State) -> Answer {
+fn image_at_once(call: &Call, state: &mut State) -> Answer {
     let answer = call.on(state);
     if *call == Call::Step && answer.reply == reply::DONE {
         let log = state.read_log();
@@ -221,7 +246,7 @@ pub(super) fn image_at_once(call: &Call, state: &mut State) -> Answer {
 }
 
 /// An ended unit's image may bear any number.
-pub(super) fn image_any_number(call: &Call, state: &mut State) -> Answer {
+fn image_any_number(call: &Call, state: &mut State) -> Answer {
     let log = state.log.clone();
     let mut images: Vec<usize> = Vec::new();
     let mut at = 0;
@@ -249,7 +274,7 @@ pub(super) fn image_any_number(call: &Call, state: &mut State) -> Answer {
 
 /// Logged images are not compared: the unit is worked out afresh, and goes on
 /// from there.
-pub(super) fn images_not_compared(call: &Call, state: &mut State) -> Answer {
+fn images_not_compared(call: &Call, state: &mut State) -> Answer {
     let Some(work) = Work::of(call, state) else {
         return call.on(state);
     };
@@ -268,7 +293,7 @@ pub(super) fn images_not_compared(call: &Call, state: &mut State) -> Answer {
 }
 
 /// The end copies its images over newer pages too.
-pub(super) fn end_over_newer(call: &Call, state: &mut State) -> Answer {
+fn end_over_newer(call: &Call, state: &mut State) -> Answer {
     let Some(log) = Log::read(&state.log) else {
         return call.on(state);
     };
@@ -312,7 +337,7 @@ fn ended_images(log: &Log, record: &Record, number: u32) -> Images {
 
 /// Recovery copies the images of all ended units when it has repeated the
 /// other records.
-pub(super) fn images_copied_last(call: &Call, state: &mut State) -> Answer {
+fn images_copied_last(call: &Call, state: &mut State) -> Answer {
     let log = Log::read(&state.log);
     let answer = call.on(state);
     let (Call::Recover, reply::DONE, Some(log)) = (call, answer.reply, log) else {
@@ -328,7 +353,7 @@ pub(super) fn images_copied_last(call: &Call, state: &mut State) -> Answer {
 
 /// Recovery takes back a put or a delete of which the begin record alone is
 /// there: it is not counted among the begun ones.
-pub(super) fn begun_not_counted(call: &Call, state: &mut State) -> Answer {
+fn begun_not_counted(call: &Call, state: &mut State) -> Answer {
     let log = Log::read(&state.log).filter(|_| is_recovery(call, state));
     if let Some(log) = log {
         let open = log.open.as_ref();
@@ -340,7 +365,7 @@ pub(super) fn begun_not_counted(call: &Call, state: &mut State) -> Answer {
 }
 
 /// Recovery finishes a put and does it once more.
-pub(super) fn begun_counted_twice(call: &Call, state: &mut State) -> Answer {
+fn begun_counted_twice(call: &Call, state: &mut State) -> Answer {
     let log = Log::read(&state.log).filter(|_| is_recovery(call, state));
     let mut answer = call.on(state);
     let row = log.and_then(|log| log.open).and_then(|open| open.begin.row);
@@ -359,7 +384,7 @@ pub(super) fn begun_counted_twice(call: &Call, state: &mut State) -> Answer {
 }
 
 /// A checkpoint takes the last put's key for LK.
-pub(super) fn lk_moved_by_put(call: &Call, state: &mut State) -> Answer {
+fn lk_moved_by_put(call: &Call, state: &mut State) -> Answer {
     let log = Log::read(&state.log);
     let answer = call.on(state);
     let (Call::Checkpoint { clear: false }, reply::DONE, Some(log)) = (call, answer.reply, log)
@@ -386,8 +411,18 @@ pub(super) fn lk_moved_by_put(call: &Call, state: &mut State) -> Answer {
     answer
 }
 
+/// A put or a delete tests the room for its begin record alone.
+fn save_room_for_next(call: &Call, state: &mut State) -> Answer {
+    let answer = call.on(state);
+    let begin = matches!(call, Call::Put | Call::Delete { .. });
+    match begin && answer.reply == reply::ROOM {
+        true => begun_in_room(call, state).unwrap_or(answer),
+        false => answer,
+    }
+}
+
 /// A put takes the first of several records.
-pub(super) fn put_of_many(call: &Call, state: &mut State) -> Answer {
+fn put_of_many(call: &Call, state: &mut State) -> Answer {
     let many = state.bytes.len() > ROW_BYTES && state.bytes.len().is_multiple_of(ROW_BYTES);
     if *call != Call::Put || !many {
         return call.on(state);
@@ -399,7 +434,7 @@ pub(super) fn put_of_many(call: &Call, state: &mut State) -> Answer {
 }
 
 /// A put does not look at its record's mark.
-pub(super) fn put_mark_unread(call: &Call, state: &mut State) -> Answer {
+fn put_mark_unread(call: &Call, state: &mut State) -> Answer {
     if *call != Call::Put || state.bytes.len() != ROW_BYTES {
         return call.on(state);
     }
@@ -411,7 +446,7 @@ pub(super) fn put_mark_unread(call: &Call, state: &mut State) -> Answer {
 }
 
 /// A delete's begin record bears the record that goes.
-pub(super) fn delete_keeps_value(call: &Call, state: &mut State) -> Answer {
+fn delete_keeps_value(call: &Call, state: &mut State) -> Answer {
     let at = state.numbers.used as usize;
     let answer = call.on(state);
     if let (Call::Delete { key }, reply::DONE) = (call, answer.reply) {
@@ -427,7 +462,7 @@ pub(super) fn delete_keeps_value(call: &Call, state: &mut State) -> Answer {
 
 /// Test 7 of an image looks at its own record's number, so that an image may
 /// bear one that has wrapped.
-pub(super) fn number_for_next(call: &Call, state: &mut State) -> Answer {
+fn number_for_next(call: &Call, state: &mut State) -> Answer {
     let answer = call.on(state);
     if !(*call == Call::Step && answer.reply == reply::NUMBER) {
         return answer;
@@ -448,7 +483,7 @@ pub(super) fn number_for_next(call: &Call, state: &mut State) -> Answer {
 }
 
 /// Find reads while a put or a delete is open: only its end changes pages.
-pub(super) fn find_while_saving(call: &Call, state: &mut State) -> Answer {
+fn find_while_saving(call: &Call, state: &mut State) -> Answer {
     let answer = call.on(state);
     let (Call::Find { .. }, reply::OPEN) = (call, answer.reply) else {
         return answer;
@@ -464,7 +499,7 @@ pub(super) fn find_while_saving(call: &Call, state: &mut State) -> Answer {
 }
 
 /// Find gives the record of a put that is open: as if it had ended.
-pub(super) fn find_of_begun(call: &Call, state: &mut State) -> Answer {
+fn find_of_begun(call: &Call, state: &mut State) -> Answer {
     let answer = call.on(state);
     let (Call::Find { key }, reply::OPEN) = (call, answer.reply) else {
         return answer;
@@ -480,7 +515,7 @@ pub(super) fn find_of_begun(call: &Call, state: &mut State) -> Answer {
 }
 
 /// A put's end leaves the first of its pages as it was.
-pub(super) fn end_forgets_page(call: &Call, state: &mut State) -> Answer {
+fn end_forgets_page(call: &Call, state: &mut State) -> Answer {
     let forward = Work::of(call, state).filter(|_| *call == Call::Step);
     let work = state.work.clone();
     let answer = call.on(state);

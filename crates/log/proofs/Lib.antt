@@ -22,6 +22,7 @@ pub mod Begin
 pub mod Plan
 pub mod Valid
 pub mod Sound
+pub mod Filed
 pub mod Read
 pub mod Write
 pub mod Append

@@ -30,4 +30,4 @@ recordAt l w (takeOut org dest) =
     LO org dest (rowsOf 16 (le2 m 16) (drop 20 m))
 recordAt l w (bringIn org dest back) = LI org dest back (sourced l w back)
 recordAt l w (point base old new other) = let m : List ℕ = drop (w .at) l in LM base old new (le4 m 20)
-recordAt l w (close unit) = LE unit
+recordAt l w (close unit) = LE unit []

@@ -59,6 +59,12 @@ module _ (l : List ℕ) (start n : ℕ) where
 
 -- ---- a begin record
 
+-- it carries one record at most
+pub one-most : (t : Bool) (k : ℕ) → k ≡ pick t 1 0 → k ≤ 1
+unfolding pick
+one-most true k e = omega arith
+one-most false k e = omega arith
+
 module _ (m : List ℕ) where
   -- the counts of pages that the type allows
   pub type-counts : (z : Bool) → z ≡ typeOk (readBegin 0 m) → not z ≡ false → (getD m 18 0 ≤ 2) × (getD m 19 0 ≤ 8)
@@ -84,8 +90,16 @@ module _ (m : List ℕ) where
   saved-count false r = eq-eqb 0 0 refl
 
   begin-is : all (beginTests (getD m 18 0) (getD m 19 0)) ≡ beginOk (readBegin 0 m)
-  unfolding beginTests beginOk readBegin all both saves
-  begin-is = rw (le-leb 0 most4 (omega arith), saved-count (savesAt m) (part 44 16 m))
+  unfolding beginTests beginOk readBegin all both saves savesAt
+  begin-is =
+      let z : true ≡ eqb (length (pick (leb 4 (getD m 16 0)) (part 44 16 m ∷ []) [])) (pick (leb 4 (getD m 16 0)) 1 0) =
+      sym (saved-count (leb 4 (getD m 16 0)) (part 44 16 m)) in
+      rw (le-leb 0 most4 (omega arith)) (ap rest z)
+    where
+      rest : Bool → Bool
+      rest t =
+          both (typeOk (readBegin 0 m)) (both (onBases (readFields (getD m 18 0) (drop 20 m))) (both (differ (readFields (getD m 18 0) (drop 20 m)))
+          (both (onLeaves (readFields (getD m 19 0) (drop 24 m))) (both (differ (readFields (getD m 19 0) (drop 24 m))) (both t true)))))
 
   pub begin-type! : (z : Bool) → z ≡ typeOk (readBegin 0 m) → not z ≡ true → false ≡ beginOk (readBegin 0 m)
   unfolding beginTests
@@ -138,7 +152,7 @@ module _ (m : List ℕ) where
 
   module _ (n u : ℕ) where
     -- a begin record's front
-    front : List ℕ
+    pub front : List ℕ
     front = unitHead begin (pick (savesAt m) 1 0) n 0 u
 
     -- a begin record's bytes behind its unit number
@@ -231,7 +245,7 @@ module _ (m : List ℕ) where
 
   -- ---- the whole record
 
-  begin-long : (u : ℕ) → size (LB (readBegin u m)) ≡ lengthOf begin (pick (savesAt m) 1 0)
+  pub begin-long : (u : ℕ) → size (LB (readBegin u m)) ≡ lengthOf begin (pick (savesAt m) 1 0)
   unfolding size carried kindOf readBegin
   begin-long u = ap (lengthOf begin) (one-borne (savesAt m) (part 44 16 m))
 

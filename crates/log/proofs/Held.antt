@@ -215,13 +215,22 @@ unfolding sizes size carried kindOf lengthOf
 sizes-imaged no-image = refl
 sizes-imaged (an-image {did = did} p) = omega (arith, sizes-imaged p)
 
+-- where its begin record stands
+begin-of : (s : State) (o : Open) → s .opened ≡ some o → (shown s) .begin ≡ s .at - (size (LB (o .start)) + sizes (o .did))
+unfolding shown given
+begin-of s o e = rw e
+
+saving-place : (l : List ℕ) (s : State) (o : Open) → s .opened ≡ some o → Anchored l s o → Keeps (s .unit) o → s .at ≡ (shown s) .begin + 60 + 272 * length (o .did)
+saving-place l s o e a k =
+    let b : size (LB (o .start)) ≡ 60 = begin-saving (o .start) (k .ok) (k .saves) ∙ (unfold lengthOf in refl) in
+    omega (arith, a .fits, sizes-imaged (k .images), b, begin-of s o e)
+
 saving-at : (l : List ℕ) (s : State) (o : Open) → s .opened ≡ some o → Anchored l s o → Keeps (s .unit) o
     → (shown s) .at ≡ (shown s) .begin + lengthOf begin 1 + lengthOf image 1 * (shown s) .done
-unfolding shown given
+unfolding lengthOf
 saving-at l s o e a k =
-    let b : size (LB (o .start)) ≡ lengthOf begin 1 = begin-saving (o .start) (k .ok) (k .saves) in
-    let n : sizes (o .did) ≡ 272 * length (o .did) = sizes-imaged (k .images) in
-    rw e (unfold lengthOf in unfold lengthOf at b in omega (arith, a .fits, n, b))
+    let x : (shown s) .at ≡ s .at = unfold shown in refl in
+    x ∙ rw (done-some s o e) (saving-place l s o e a k)
 
 at-is : (l : List ℕ) (s : State) → Holds l s → (shown s) .at ≤ length l
 unfolding shown
@@ -292,7 +301,7 @@ opened-some l s o e v q =
 -- an open put or delete
 opened-save : (l : List ℕ) (s : State) (o : Open) → s .opened ≡ some o → saves (o .start) ≡ true → Anchored l s o
     → turned l (shown s) ≡ saved (shown s) (drop (s .at) l) (imagesOf (o .did) [])
-unfolding turned imagesOn
+unfolding turned imagesOn lengthOf
 opened-save l s o e v a =
     let at : (shown s) .at ≡ s .at = unfold shown in refl in
     let d : (shown s) .done ≡ length (o .did) = done-some s o e in
@@ -302,7 +311,7 @@ opened-save l s o e v a =
     pick-true _ _ _ f
     ∙ pick-true _ _ _ (sym (saves-of (s .unit) b) ∙ sym (ap saves (a .start)) ∙ v)
     ∙ ap (λ (x : ℕ). saved (shown s) (drop x l) (imagesIn ((shown s) .done) (drop (lengthOf begin 1) b))) at
-    ∙ ap (saved (shown s) (drop (s .at) l)) (unfold lengthOf in i)
+    ∙ ap (saved (shown s) (drop (s .at) l)) i
 
 open-by : (l : List ℕ) (s : State) → Holds l s → (o : Open) → s .opened ≡ some o → (t : Bool) → saves (o .start) ≡ t
     → turned l (shown s) ≡ given (readRec s (drop (s .at) l)) lost (λ r. shown (after s r))
@@ -327,10 +336,6 @@ pub turn-reads : (l : List ℕ) (s : State) → Holds l s → turned l (shown s)
 turn-reads l s h = turn-by l s h (s .opened) refl
 
 -- ---- what holds after a record
-
-begin-of : (s : State) (o : Open) → s .opened ≡ some o → (shown s) .begin ≡ s .at - (size (LB (o .start)) + sizes (o .did))
-unfolding shown given
-begin-of s o e = rw e
 
 begin-new : (s : State) (g : Begin) → (after s (LB g)) .at - (size (LB g) + sizes []) ≡ s .at
 unfolding after sizes
@@ -377,7 +382,7 @@ anchored-going l s o r e v a n u k p q =
 
 -- the LG that is read
 image-read : (s : State) (o : Open) (m : List ℕ) (i : Image) → s .opened ≡ some o → saves (o .start) ≡ true → readRec s m ≡ some (LG i) → i ≡ readImage m
-unfolding readRec expected imaged
+unfolding readRec expected imaged pick
 image-read s o m i e v q =
     let b = bind-some (expected (s .unit) (s .opened) m) _ (LG i) q in
     let x : b .from ≡ LG i = when-some _ (b .from) (LG i) (b .gives) .1 in
@@ -388,7 +393,6 @@ image-read s o m i e v q =
     by-mark : (t : Bool) → pick t (when (follows (imagesOf (o .did) []) (readImage m)) (LG (readImage m)))
         (when (both (leb 1 (length (imagesOf (o .did) []))) (allBear (le4 m 4) (imagesOf (o .did) []))) (LE (o .start .unit) (imagesOf (o .did) []))) ≡ some (LG i)
         → i ≡ readImage m
-    unfolding pick
     by-mark true c = let z : LG (readImage m) ≡ LG i = when-some _ _ (LG i) c .1 in cc
     by-mark false c =
         let z : LE (o .start .unit) (imagesOf (o .did) []) ≡ LG i = when-some _ _ (LG i) c .1 in
@@ -400,12 +404,15 @@ anchored-image : (l : List ℕ) (s : State) (o : Open) (i : Image) → s .opened
 anchored-image l s o i e k a q p n =
     let y : (after s (LG i)) .opened ≡ some (noting (LG i) o) = unfold after openedBy bind in rw e in
     let b : ℕ = (shown s) .begin in
-    let at : s .at ≡ b + 60 + 272 * length (o .did) =
-    unfold shown lengthOf at (saving-at l s o e a k) in rw e at (unfold shown lengthOf at (saving-at l s o e a k)) in
+    let d : List Rec = o .did in
+    let j : ℕ = 272 * length d in
+    let c : drop j (drop 60 (drop b l)) ≡ drop (s .at) l =
+    ap (drop j) (drop-drop 60 b l) ∙ drop-drop j (b + 60) l ∙ ap (λ (x : ℕ). drop x l) (sym (saving-place l s o e a k)) in
+    let r : readImage (drop j (drop 60 (drop b l))) ≡ i = ap readImage c ∙ sym q in
+    let f : imagesOf (LG i ∷ d) [] ≡ imagesOf d (i ∷ []) = unfold imagesOf in refl in
     subst (Anchored l (after s (LG i))) (Option·some-injective (noting (LG i) o) p (sym y ∙ n))
     (anchored-more l s o (LG i) e a (unfold after unitBy in refl) (unfold after in refl) (noting (LG i) o) y (unfold noting in refl) (unfold noting in refl)
-    (λ v. imagesIn-more (length (o .did)) (drop 60 (drop b l))
-    ∙ rw (a .images v, drop-drop 60 b l, drop-drop (272 * length (o .did)) (60 + b) l) (unfold imagesOf in sym (images-more (o .did) (i ∷ []) ∙ rw q (omega arith)))))
+    (λ v. imagesIn-more (length d) (drop 60 (drop b l)) ∙ rw (a .images v, r) (sym (f ∙ images-more d (i ∷ [])))))
 
 -- the LB that is read
 pub begin-read : (s : State) (m : List ℕ) (r : Rec) → s .opened ≡ none → readRec s m ≡ some r → r ≡ LB (readBegin (s .unit + 1) m)

@@ -136,7 +136,7 @@ unfolding startOf unitHead header bytes2 bytes4
 length-start k n unit kind fill bs ls dest =
     let a : length (fields 2 bs ++ (fields 8 ls ++ (bytes2 dest ++ bytes2 0))) ≡ 24 =
     length-append (fields 2 bs) _ ∙ rw (length-append (fields 8 ls) (bytes2 dest ++ bytes2 0), length-fields 2 bs, length-fields 8 ls) (unfold bytes2 in refl) in
-    unfold bytes2 at a in rw a
+    rw a
 
 -- the loop that writes fields: its start, a turn, its end
 module _ (d : List ℕ) (at : ℕ) (ps : List ℕ) where

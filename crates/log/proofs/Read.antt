@@ -24,7 +24,7 @@ use Rattle.page.specs.Each.{Each, Long}
 use Rattle.page.proofs.Rows.{length-rowsOf, long-rowsOf, bytes-rowsOf}
 use Rattle.log.specs.Record.{image, lengthOf, kindOf, Check, Begin, saves, Image, Rec, LB, LO, LG, LE, carried, size, sizes, encodeCheck, encode, encodeAll}
 use Rattle.log.specs.Plan.{Step, takeOut, bringIn, point, close}
-use Rattle.log.specs.Log.{Open, State, first, after, readBegin, beginOk, planned, plannedFirst, imagesOf, allBear, readImage, follows, imaged, expected, readRec, readRecs, readCheck, Log, readLog, atEnd, encodeLog}
+use Rattle.log.specs.Log.{Open, State, first, after, savesAt, readBegin, beginOk, planned, plannedFirst, imagesOf, allBear, readImage, follows, imaged, expected, readRec, readRecs, readCheck, Log, readLog, atEnd, encodeLog}
 use Rattle.log.proofs.Record.{Sized, length-encodeCheck, length-encode, number-read}
 use Rattle.log.proofs.State.{Every, at-atEnd}
 use Rattle.log.specs.Valid.{Does, does-out, does-in, does-point, does-close, Logs, logs-image, logs-end, Bears, Follows, begins, goes, logs, Fits, Valid, Small, Good}
@@ -106,7 +106,7 @@ first-bears m (x ∷ xs) did l r e = planned-bears m x did l r e
 saved-facts : (u : ℕ) (l : List ℕ) → size (LB (readBegin u l)) ≤ length l
     → Each (Long 16) (readBegin u l .saved) × (Bytes l → Each Bytes (readBegin u l .saved))
 unfolding readBegin carried size lengthOf kindOf
-saved-facts u l h = by-type (leb 4 (getD l 16 0)) h
+saved-facts u l h = by-type (savesAt l) h
   where
     by-type : (t : Bool) → 44 + 16 * length (pick t (part 44 16 l ∷ []) []) ≤ length l
         → Each (Long 16) (pick t (part 44 16 l ∷ []) []) × (Bytes l → Each Bytes (pick t (part 44 16 l ∷ []) []))

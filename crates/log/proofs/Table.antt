@@ -47,6 +47,18 @@ kind-bounded (suc (suc (suc (suc (suc zero))))) h = record { fixed = omega arith
 kind-bounded (suc (suc (suc (suc (suc (suc zero)))))) h = record { fixed = omega arith; each = omega arith }
 kind-bounded (suc (suc (suc (suc (suc (suc (suc k))))))) h = absurd (omega arith)
 
+-- its mark's letter is a byte
+pub sign-byte : (k : ℕ) → k < 7 → getD kinds k check .sign ≤ 255
+unfolding kinds
+sign-byte zero h = omega arith
+sign-byte (suc zero) h = omega arith
+sign-byte (suc (suc zero)) h = omega arith
+sign-byte (suc (suc (suc zero))) h = omega arith
+sign-byte (suc (suc (suc (suc zero)))) h = omega arith
+sign-byte (suc (suc (suc (suc (suc zero))))) h = omega arith
+sign-byte (suc (suc (suc (suc (suc (suc zero)))))) h = omega arith
+sign-byte (suc (suc (suc (suc (suc (suc (suc k))))))) h = absurd (omega arith)
+
 -- the bytes of what a record carries are few
 pub each-small : (k n e : ℕ) → k < 7 → n ≤ 15 → e ≡ getD (tabled kinds) (4 * k + 3) 0 → e * n ≤ 3840
 unfolding kindAt

@@ -13,7 +13,7 @@ use lib.Seq.{drop-cons}
 use lib.Dec.{eqb, leb}
 use borrow.Author.Tests.{eq-eqb, ne-eqb, le-leb, lt-leb}
 use Rattle.field.specs.Test.{both, all, pick, given, when, bind, there}
-use Rattle.field.specs.Bytes.{starts, le2, le4, most4}
+use Rattle.field.specs.Bytes.{part, starts, le2, le4, most4}
 use Rattle.field.proofs.Test.{pick-true, pick-false}
 use Rattle.field.proofs.Part.{split}
 use Rattle.page.specs.Page.{rowsOf, keyOf, ascendRecords}
@@ -259,7 +259,7 @@ module _ (s : State) (o : Open) (op : s .opened ≡ some o) (m : List ℕ) where
   -- the record that an open put or delete reads next
   pub save-reads : saves (o .start) ≡ true → o .start .unit ≡ s .unit → (eqb (o .start .type) 1 ≡ false)
       → saved (shown s) m (imagesOf (o .did) []) ≡ given (readRec s m) lost (λ r. shown (after s r))
-  unfolding expected saved imaged standsImage standsLast
+  unfolding expected saved imaged standsImage standsLast pick
   save-reads v u n =
       let is : List Image = imagesOf (o .did) [] in
       let un : (shown s) .unit .0 ≡ s .unit = unfold shown in refl in
@@ -272,7 +272,6 @@ module _ (s : State) (o : Open) (op : s .opened ≡ some o) (m : List ℕ) where
           (when (both (leb 1 (length (imagesOf (o .did) []))) (allBear (le4 m 4) (imagesOf (o .did) []))) (LE (s .unit) (imagesOf (o .did) [])))) (λ r. when (stands (s .number + 1) r m) r)) lost (λ r. shown (after s r))
           ≡ pick t (pick (both (follows (imagesOf (o .did) []) (readImage m)) (stands (s .number + 1) (LG (readImage m)) m)) (went (shown s) (lengthOf image 1) 0 0 ((shown s) .moved)) lost)
           (pick (both (both (leb 1 (length (imagesOf (o .did) []))) (allBear (s .number + 1) (imagesOf (o .did) []))) (stands (s .number + 1) (LE (s .unit) (imagesOf (o .did) [])) m)) (ended (shown s) false) lost)
-      unfolding pick
       by-mark true = given-both (λ r. stands (s .number + 1) r m) (λ r. shown (after s r)) lost _ (LG (readImage m)) ∙ rw (image-shown (readImage m))
       by-mark false =
           given-both (λ r. stands (s .number + 1) r m) (λ r. shown (after s r)) lost _ (LE (s .unit) (imagesOf (o .did) []))
@@ -291,4 +290,5 @@ shut-reads s m op =
     let r : given (readRec s m) lost (λ r. shown (after s r)) ≡ pick (both (beginOk g) (stands (s .number + 1) (LB g) m)) (shown (after s (LB g))) lost =
     ap (λ (y : Option Rec). given y lost (λ r. shown (after s r))) (read-is s m (when (beginOk g) (LB g)) e)
     ∙ given-both (λ r. stands (s .number + 1) r m) (λ r. shown (after s r)) lost (beginOk g) (LB g) in
-    sym (r ∙ rw (shown-begun s g op gu, n, u, saved-length (savesAt m) _))
+    let k : length (g .saved) ≡ pick (savesAt m) 1 0 = unfold readBegin in saved-length (savesAt m) (part 44 16 m) in
+    sym (r ∙ rw (shown-begun s g op gu, n, u, k))

@@ -10,7 +10,7 @@ use mathlib.Core.Option.{Option, some, none}
 use lib.ListN.{length, take, drop, getD, length-append}
 use lib.Seq.{drop-drop, drop-at, take-at}
 use lib.Dec.{eqb, leb}
-use borrow.Author.Tests.{eq-eqb, ne-eqb, le-leb, ltb-true}
+use borrow.Author.Tests.{eq-eqb, ne-eqb, le-leb, leb-true}
 use Rattle.field.specs.Test.{both, all, pick, when}
 use Rattle.field.specs.Bytes.{part, zeroes, allZero, starts, le2, le4, bytes2, bytes4, most4}
 use Rattle.field.proofs.Test.{both-intro, all-head, all-tail, all-nil, all-intro, pick-true, pick-false, when-true, bind-intro}
@@ -22,7 +22,7 @@ use Rattle.page.specs.Each.{Each, Long}
 use Rattle.page.proofs.Rows.{rowsOf-joined}
 use Rattle.log.specs.Record.{image, lengthOf, kindOf, carried, Check, Begin, saves, Image, Rec, LB, LO, LM, LG, LE, size, sizes, header, fields, lkBytes, encodeCheck, newKey, body, encode, encodeAll}
 use Rattle.log.specs.Plan.{Step}
-use Rattle.log.specs.Log.{Open, State, first, after, within, beginOk, readFields, readBegin, planned, plannedFirst, imagesOf, allBear, readImage, follows, imaged, expected, readRec, readRecs, readCheck, Log, readLog, encodeLog}
+use Rattle.log.specs.Log.{Open, State, first, after, within, beginOk, readFields, savesAt, readBegin, planned, plannedFirst, imagesOf, allBear, readImage, follows, imaged, expected, readRec, readRecs, readCheck, Log, readLog, encodeLog}
 use Rattle.log.specs.Valid.{Does, does-out, does-in, does-point, does-close, Logs, logs-image, logs-end, Bears, Follows, begins, goes, logs, Fits, Valid, Small, Good}
 use Rattle.log.proofs.Record.{length-fields, length-encodeCheck, length-encode, encode-first, number-read}
 use Rattle.log.proofs.State.{sizes-least, length-encodeAll}
@@ -99,7 +99,7 @@ module _ (n : ℕ) (g : Begin) (rest : List ℕ) (ok : beginOk g ≡ true) (long
       let ls : readFields (getD l 19 0) (drop 24 l) ≡ g .leaves =
       rw (four-on .3, leaves-on) (readFields-fields firstLeaf lastLeaf 8 (g .leaves) (bytes2 (g .dest) ++ (bytes2 0 ++ (joined (g .saved) ++ rest))) (omega arith) (m .leaves) (beginOk-leaves g ok)) in
       let d : le2 l 40 ≡ g .dest = sym (le2-drop 40 0 l) ∙ rw dest-on (le2-bytes2 (g .dest) (bytes2 0 ++ (joined (g .saved) ++ rest)) (omega arith)) in
-      let s : pick (leb 4 (getD l 16 0)) (part 44 16 l ∷ []) [] ≡ g .saved = rw (four-on .0) (saved-read (leb 4 (g .type)) refl (g .saved) refl) in
+      let s : pick (savesAt l) (part 44 16 l ∷ []) [] ≡ g .saved = unfold savesAt in rw (four-on .0) (saved-read (leb 4 (g .type)) refl (g .saved) refl) in
       λ i. record { unit = g .unit; type = four-on .0 i; fill = four-on .1 i; bases = bs i; leaves = ls i; dest = d i; saved = s i }
 
 -- ---- one record
@@ -141,12 +141,12 @@ sign-end : (n u : ℕ) (is : List Image) (rest : List ℕ) → getD (encode n (L
 unfolding encode header kindOf
 sign-end n u is rest = refl
 
-follows-small : (is : List Image) (i : Image) → follows is i ≡ true → i .at < 64
+follows-small : (is : List Image) (i : Image) → follows is i ≡ true → i .at ≤ lastLeaf
 unfolding follows
-follows-small is i e = ltb-true (i .at) 64 (all-head _ _ (all-tail _ _ e))
+follows-small is i e = leb-true (i .at) lastLeaf (all-head _ _ (all-tail _ _ e))
 
 -- an LG's image
-image-read : (n : ℕ) (i : Image) (rest : List ℕ) → i .at < 64 → length (i .bytes) ≡ 256 → readImage (encode n (LG i) ++ rest) ≡ i
+image-read : (n : ℕ) (i : Image) (rest : List ℕ) → i .at ≤ lastLeaf → length (i .bytes) ≡ 256 → readImage (encode n (LG i) ++ rest) ≡ i
 unfolding readImage
 image-read n i rest h k = λ j. record { at = at-read j; bytes = bytes-read j }
   where
@@ -161,7 +161,7 @@ imaged-encode : {u : ℕ} {is : List Image} {r : Rec} (n : ℕ) (rest : List ℕ
 unfolding imaged
 imaged-encode {u} {is} n rest h k (logs-image {i = i} f l b) =
     let l1 : List ℕ = encode n (LG i) ++ rest in
-    let small : i .at < 64 = follows-small is i f in
+    let small : i .at ≤ lastLeaf = follows-small is i f in
     pick-true (eqb (getD l1 1 0) (image .sign)) (when (follows is (readImage l1)) (LG (readImage l1))) _ (eq-eqb (getD l1 1 0) 71 (sign-image n i rest))
     ∙ rw (image-read n i rest small l) (when-true (follows is i) (LG i) f)
 imaged-encode {u} {is} n rest h k (logs-end m) =

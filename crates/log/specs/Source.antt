@@ -1,7 +1,7 @@
 -- By numbers, where the LO of an LI to come stands and what it carried, and the record of a step that stands at the walk's end.
 -- Assumes nothing.
 use Prim.Native.Nat.{ℕ, _+_}
-use mathlib.Core.List.{List}
+use mathlib.Core.List.{List, []}
 use lib.ListN.{drop}
 use lib.Dec.{eqb}
 use Rattle.field.specs.Test.{pick}

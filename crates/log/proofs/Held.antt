@@ -346,7 +346,7 @@ unfolding size carried kindOf lengthOf
 begin-size a r g n e h = let k : a + (44 + 16 * length (g .saved)) ≤ n = rw e at h in omega arith
 
 -- the images behind a begin record after one more
-imagesIn-more : (k : ℕ) (m : List ℕ) → imagesIn (suc k) m ≡ imagesIn k m ++ readImage (drop (272 * k) m) ∷ []
+pub imagesIn-more : (k : ℕ) (m : List ℕ) → imagesIn (suc k) m ≡ imagesIn k m ++ readImage (drop (272 * k) m) ∷ []
 unfolding imagesIn lengthOf
 imagesIn-more zero m = refl
 imagesIn-more (suc k) m =

@@ -14,6 +14,7 @@ pub mod Turned
 pub mod Ways
 pub mod Signs
 pub mod Held
+pub mod Images
 pub mod Laid
 pub mod Pass
 pub mod Stand

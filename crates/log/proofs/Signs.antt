@@ -54,9 +54,9 @@ close-room : (n u : ℕ) (is : List Image) (m : List ℕ) → stands n (LE u is)
 unfolding size carried kindOf lengthOf
 close-room n u is m e = stands-room n (LE u is) m e
 
-image-room : (n : ℕ) (i : Image) (m : List ℕ) → stands n (LG i) m ≡ true → 272 ≤ length m
+pub drawn-room : (n : ℕ) (i : Image) (m : List ℕ) → stands n (LG i) m ≡ true → 272 ≤ length m
 unfolding size carried kindOf lengthOf
-image-room n i m e = stands-room n (LG i) m e
+drawn-room n i m e = stands-room n (LG i) m e
 
 begin-least : (k n : ℕ) → lengthOf begin k ≤ n → 16 ≤ n
 unfolding lengthOf
@@ -180,7 +180,7 @@ module _ (w : Walk) (m : List ℕ) (t : Bool) where
   way-image is h =
       let s = stands-sign (w .number .0 + 1) (LG (readImage m)) m (both-2 _ _ h) in
       let n = stands-number (w .number .0 + 1) (LG (readImage m)) m (both-2 _ _ h) in
-      let r = image-room (w .number .0 + 1) (readImage m) m (both-2 _ _ h) in
+      let r = drawn-room (w .number .0 + 1) (readImage m) m (both-2 _ _ h) in
       record {
         number = omega (arith, n);
         room = omega (arith, r);

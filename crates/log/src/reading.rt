@@ -191,10 +191,10 @@ pub fn all_bear(m: &[u8], k: usize, n: LogNo) -> bool
     ensures { λ r. ⌜ r ≡ allBear (n .0) (imagesIn k (now (m .entry))) ⌝ }
 {
     let long = kind::size_of(kind::LG, 1);
-    let mut at = kind::size_of(kind::LG, 0) + 4;
+    let mut at = 0;
     let mut left = k;
     while 0 < left {
-        if field::get4(m, at) != n.0 {
+        if field::get4(m, at + kind::LG_LONG + 4) != n.0 {
             return false;
         }
         at += long;

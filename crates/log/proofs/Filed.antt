@@ -9,25 +9,11 @@ use lib.ListN.{length}
 use Rattle.field.specs.Test.{bind}
 use Rattle.field.specs.Bytes.{Bytes}
 use Rattle.field.proofs.Test.{all-head, all-tail}
-use Rattle.page.specs.Page.{lastLeaf, formed}
 use Rattle.log.specs.Record.{Begin, Image, Rec, LB, LO, LI, LM, LG, LE}
 use Rattle.log.specs.Log.{Open, State, first, after, afterAll, going, noting, openedBy, imagesOf, past, follows, Log}
-use Rattle.log.specs.Valid.{Does, does-out, does-in, does-point, does-close, Logs, logs-image, logs-end, Follows, begins, goes, logs, Fits, Valid, nil, cons}
+use Rattle.log.specs.Valid.{Does, does-out, does-in, does-point, does-close, Logs, logs-image, logs-end, Follows, begins, goes, logs, Fits, Valid, nil, cons, Lies, Filed}
 
--- an image of a page from p on
-pub record Sheet (p : ℕ) (i : Image) : Type 0 where
-  pub low : p ≤ i .at
-  pub high : i .at ≤ lastLeaf
-  pub form : formed (i .at) (i .bytes) ≡ true
-  pub long : length (i .bytes) ≡ 256
-  pub bytes : Bytes (i .bytes)
-
--- images of ascending pages from p on
-abbrev pub Filed : ℕ → List Image → Type 0
-Filed p [] = Unit {0}
-Filed p (i ∷ is) = Sheet p i × Filed (i .at + 1) is
-
-filed-more : (p : ℕ) (is : List Image) (i : Image) → Filed p is → Sheet (past p is) i → Filed p (is ++ i ∷ [])
+filed-more : (p : ℕ) (is : List Image) (i : Image) → Filed p is → Lies (past p is) i → Filed p (is ++ i ∷ [])
 unfolding past
 filed-more p [] i f s = (s, tt)
 filed-more p (j ∷ is) i f s = (f .0, filed-more (j .at + 1) is i (f .1) s)
@@ -49,9 +35,9 @@ abbrev pub Tidily : Option Open → Type 0
 Tidily none = Unit {0}
 Tidily (some o) = Filed 0 (imagesOf (o .did) [])
 
-follows-sheet : (is : List Image) (i : Image) → follows is i ≡ true → length (i .bytes) ≡ 256 → Bytes (i .bytes) → Sheet (past 0 is) i
+follows-lies : (is : List Image) (i : Image) → follows is i ≡ true → length (i .bytes) ≡ 256 → Bytes (i .bytes) → Lies (past 0 is) i
 unfolding follows
-follows-sheet is i e l b =
+follows-lies is i e l b =
     let t = all-tail _ _ e in
     record { low = leb-true _ _ (all-head _ _ e); high = leb-true _ _ (all-head _ _ t); form = all-head _ _ (all-tail _ _ t); long = l; bytes = b }
 
@@ -64,7 +50,7 @@ after-follows u (some o) (LI org dest back rs) (goes s e (does-in m)) t = t
 after-follows u (some o) (LM base old new key) (goes s e (does-point m)) t = t
 after-follows u (some o) (LE unit is) (goes s e does-close) t = tt
 after-follows u (some o) (LG i) (logs s (logs-image f l b)) t =
-    rw (images-more (o .did) (i ∷ [])) (filed-more 0 (imagesOf (o .did) []) i t (follows-sheet (imagesOf (o .did) []) i f l b))
+    rw (images-more (o .did) (i ∷ [])) (filed-more 0 (imagesOf (o .did) []) i t (follows-lies (imagesOf (o .did) []) i f l b))
 after-follows u (some o) (LE unit is) (logs s (logs-end h)) t = tt
 
 pub tidily : {s : State} {rs : List Rec} → Valid s rs → Tidily (s .opened) → Tidily (afterAll s rs .opened)

@@ -313,6 +313,11 @@ opened-save l s o e v a =
     ∙ ap (λ (x : ℕ). saved (shown s) (drop x l) (imagesIn ((shown s) .done) (drop (lengthOf begin 1) b))) at
     ∙ ap (saved (shown s) (drop (s .at) l)) i
 
+-- its images, by the numbers of the walk
+pub images-on : (l : List ℕ) (s : State) (o : Open) → s .opened ≡ some o → saves (o .start) ≡ true → Anchored l s o → imagesOn l (shown s) ≡ imagesOf (o .did) []
+unfolding imagesOn lengthOf
+images-on l s o e v a = ap (λ (k : ℕ). imagesIn k (drop 60 (drop ((shown s) .begin) l))) (done-some s o e) ∙ a .images v
+
 open-by : (l : List ℕ) (s : State) → Holds l s → (o : Open) → s .opened ≡ some o → (t : Bool) → saves (o .start) ≡ t
     → turned l (shown s) ≡ given (readRec s (drop (s .at) l)) lost (λ r. shown (after s r))
 open-by l s h o e true v =
@@ -380,24 +385,31 @@ anchored-going l s o r e v a n u k p q =
     subst (Anchored l (after s r)) (Option·some-injective (going r o) p (sym n ∙ q))
     (anchored-more l s o r e a u k (going r o) n (unfold going in refl) (unfold going in refl) (λ x. absurd (false≢true (sym v ∙ x))))
 
--- the LG that is read
-image-read : (s : State) (o : Open) (m : List ℕ) (i : Image) → s .opened ≡ some o → saves (o .start) ≡ true → readRec s m ≡ some (LG i) → i ≡ readImage m
+-- the record of a put or delete that is read
+pub saved-read : (s : State) (o : Open) (m : List ℕ) (r : Rec) → s .opened ≡ some o → saves (o .start) ≡ true → readRec s m ≡ some r
+    → r ≡ pick (eqb (getD m 1 0) (image .sign)) (LG (readImage m)) (LE (o .start .unit) (imagesOf (o .did) []))
 unfolding readRec expected imaged pick
-image-read s o m i e v q =
-    let b = bind-some (expected (s .unit) (s .opened) m) _ (LG i) q in
-    let x : b .from ≡ LG i = when-some _ (b .from) (LG i) (b .gives) .1 in
-    let y : imaged (o .start .unit) (imagesOf (o .did) []) m ≡ some (LG i) =
+saved-read s o m r e v q =
+    let b = bind-some (expected (s .unit) (s .opened) m) _ r q in
+    let x : b .from ≡ r = when-some _ (b .from) r (b .gives) .1 in
+    let y : imaged (o .start .unit) (imagesOf (o .did) []) m ≡ some r =
     sym (ap (λ (z : Option Open). expected (s .unit) z m) e ∙ pick-true _ _ _ v) ∙ b .was ∙ ap (λ (z : Rec). some z) x in
     by-mark (eqb (getD m 1 0) (image .sign)) y
   where
     by-mark : (t : Bool) → pick t (when (follows (imagesOf (o .did) []) (readImage m)) (LG (readImage m)))
-        (when (both (leb 1 (length (imagesOf (o .did) []))) (allBear (le4 m 4) (imagesOf (o .did) []))) (LE (o .start .unit) (imagesOf (o .did) []))) ≡ some (LG i)
-        → i ≡ readImage m
-    by-mark true c = let z : LG (readImage m) ≡ LG i = when-some _ _ (LG i) c .1 in cc
-    by-mark false c =
-        let z : LE (o .start .unit) (imagesOf (o .did) []) ≡ LG i = when-some _ _ (LG i) c .1 in
-        let w : _≡_ {A = ℕ} 0 1 = cc in
-        absurd (omega arith)
+        (when (both (leb 1 (length (imagesOf (o .did) []))) (allBear (le4 m 4) (imagesOf (o .did) []))) (LE (o .start .unit) (imagesOf (o .did) []))) ≡ some r
+        → r ≡ pick t (LG (readImage m)) (LE (o .start .unit) (imagesOf (o .did) []))
+    by-mark true c = sym (when-some _ _ r c .1)
+    by-mark false c = sym (when-some _ _ r c .1)
+
+-- an LG's image
+image-read : (s : State) (o : Open) (m : List ℕ) (i : Image) → s .opened ≡ some o → saves (o .start) ≡ true → readRec s m ≡ some (LG i) → i ≡ readImage m
+unfolding pick
+image-read s o m i e v q = by-mark (eqb (getD m 1 0) (image .sign)) (saved-read s o m (LG i) e v q)
+  where
+    by-mark : (t : Bool) → LG i ≡ pick t (LG (readImage m)) (LE (o .start .unit) (imagesOf (o .did) [])) → i ≡ readImage m
+    by-mark true c = cc
+    by-mark false c = let z : _≡_ {A = ℕ} 0 1 = cc in absurd (omega arith)
 
 anchored-image : (l : List ℕ) (s : State) (o : Open) (i : Image) → s .opened ≡ some o → Keeps (s .unit) o → Anchored l s o → i ≡ readImage (drop (s .at) l)
     → (p : Open) → (after s (LG i)) .opened ≡ some p → Anchored l (after s (LG i)) p

@@ -27,7 +27,7 @@ use Rattle.log.specs.declared.scan.Walk.{Walk}
 use Rattle.log.proofs.Puts.{encode-image, length-imageHead}
 use Rattle.log.proofs.Starts.{starts-cat, starts-part}
 use Rattle.log.proofs.Stand.{put-front-is, both-none}
-use Rattle.log.proofs.Signs.{drawn-room}
+use Rattle.log.proofs.Signs.{drawn-room, close-room}
 use Rattle.log.proofs.Held.{imagesIn-more}
 
 -- ---- the loop over images that must bear a number: a turn and its ends
@@ -169,6 +169,13 @@ module _ (l : List ℕ) (w : Walk) (x : Walk) where
 
         pub last-on : x ≡ ended w false → not y ≡ false → x ≡ pick (standsLast n (w .unit .0) (imagesOn l w) (drop (w .at) l)) (ended w false) lost
         last-on q g = q ∙ sym (pick-true _ _ _ (last-is f h ∙ sym ey ∙ not-false y g))
+
+-- it ends in the log
+pub last-room : (n u : ℕ) (l : List ℕ) (at : ℕ) (z : Bool) → z ≡ stands n (LE u []) (drop at l) → not z ≡ false → at + 16 ≤ length l
+last-room n u l at z e h =
+    let r : 16 ≤ length (drop at l) = close-room n u [] (drop at l) (sym e ∙ not-false z h) in
+    let d : length (drop at l) ≡ length l - at = length-drop at l in
+    omega arith
 
 -- ---- either
 

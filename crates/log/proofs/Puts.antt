@@ -191,15 +191,15 @@ pub encode-plain : (n unit kind fill : ℕ) (bs ls : List ℕ) (dest : ℕ) → 
 unfolding joined
 encode-plain n unit kind fill bs ls dest = sym (encode-begin n unit kind fill bs ls dest [] ∙ append-nil _)
 
--- the LB of a put or delete: its start, then its record
-pub save-written : (l : List ℕ) (at n unit kind : ℕ) (bs ls r : List ℕ) → bs ≡ [] → ls ≡ [] → length r ≡ 16 → at + 60 ≤ length l → (m : List ℕ)
-    → m ≡ put at (startOf 1 n unit kind 0 bs ls 0) l → put (at + 44) r m ≡ put at (encode n (LB (saveOf unit kind r))) l
-unfolding saveOf joined
-save-written l at n unit kind bs ls r eb el k h m e =
-    let q : length (startOf 1 n unit kind 0 [] [] 0) ≡ 44 = length-start 1 n unit kind 0 [] [] 0 in
+-- the LB of a put or delete: its start, which lists nothing, then its record
+pub save-written! : (l : List ℕ) (at n unit kind : ℕ) (bs ls r m s : List ℕ) (k : ℕ) → bs ≡ [] → ls ≡ [] → length r ≡ 16 → at + 60 ≤ length l
+    → m ≡ put at (startOf 1 n unit kind 0 bs ls 0) l → k ≡ lengthOf (kindAt 1) 0 → s ≡ put (at + k) r m → s ≡ put at (encode n (LB (saveOf unit kind r))) l
+unfolding saveOf joined lengthOf kindAt kinds
+save-written! l at n unit kind bs ls r m s k eb el h room e q p =
+    let z : length (startOf 1 n unit kind 0 [] [] 0) ≡ 44 = length-start 1 n unit kind 0 [] [] 0 in
     let f : encode n (LB (beginOf unit kind 0 [] [] 0 (r ∷ []))) ≡ startOf 1 n unit kind 0 [] [] 0 ++ r =
     encode-begin n unit kind 0 [] [] 0 (r ∷ []) ∙ ap (λ (x : List ℕ). startOf 1 n unit kind 0 [] [] 0 ++ x) (append-nil r) in
-    rw (e, eb, el, f, ← q) (put-next at (startOf 1 n unit kind 0 [] [] 0) r l (omega arith))
+    p ∙ rw (q, e, eb, el, f, ← z) (put-next at (startOf 1 n unit kind 0 [] [] 0) r l (omega arith))
 
 -- ---- an LG
 

@@ -50,7 +50,7 @@ in-number n org dest back k m e = leb-true n most4 (all-head _ _ e)
 
 -- ---- and its bytes
 
-close-room : (n u : ℕ) (is : List Image) (m : List ℕ) → stands n (LE u is) m ≡ true → 16 ≤ length m
+pub close-room : (n u : ℕ) (is : List Image) (m : List ℕ) → stands n (LE u is) m ≡ true → 16 ≤ length m
 unfolding size carried kindOf lengthOf
 close-room n u is m e = stands-room n (LE u is) m e
 

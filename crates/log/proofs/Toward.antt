@@ -11,24 +11,24 @@ use lib.ListN.{length, drop, getD, length-drop}
 use lib.Seq.{drop-drop, getD-drop}
 use lib.Dec.{eqb, leb}
 use borrow.Author.Tests.{leb-true}
-use Rattle.field.specs.Test.{both, all, given, there}
+use Rattle.field.specs.Test.{both, all, pick, given, there}
 use Rattle.field.specs.Bytes.{put, allZero, Bytes, le2}
 use Rattle.field.proofs.Test.{all-head, all-tail, when-some, bind-some}
 use Rattle.field.proofs.Byte.{bytes-drop}
 use Rattle.page.specs.Page.{rowsOf, ascendRecords}
 use Rattle.page.proofs.Rows.{length-rowsOf}
-use Rattle.log.specs.Record.{Check, Begin, saves, Rec, LB, LO, LI, lengthOf, kindOf, carried, size, encode}
+use Rattle.log.specs.Record.{Check, Begin, saves, Image, Rec, LB, LO, LI, LG, LE, image, lengthOf, kindOf, carried, size, encode}
 use Rattle.log.specs.Plan.{Step, takeOut, bringIn, point, close, plan}
-use Rattle.log.specs.Log.{Open, State, first, after, afterAll, savesAt, readBegin, beginOk, taken, planned, readRec, readRecs, readCheck, Log, readLog, atEnd}
+use Rattle.log.specs.Log.{Open, State, first, after, afterAll, savesAt, readBegin, beginOk, taken, planned, imagesOf, readImage, readRec, readRecs, readCheck, Log, readLog, atEnd}
 use Rattle.log.specs.Scan.{shown, lost, turned, Ready, topped, answer, scanned, live}
-use Rattle.log.specs.Source.{sourced, recordAt}
+use Rattle.log.specs.Source.{sourced, recordAt, savedAt}
 use Rattle.log.specs.declared.scan.Walk.{Walk}
 use Rattle.log.proofs.Record.{size-least}
 use Rattle.log.specs.Valid.{Fits}
 use Rattle.log.proofs.Sound.{Awaits, awaits-todo}
 use Rattle.log.proofs.Read.{ReadOff, readRec-facts, readCheck-facts}
 use Rattle.log.proofs.Append.{grown, readLog-put, bytes-grown}
-use Rattle.log.proofs.Held.{Anchored, Holds, Back, Cons, ending-cons, head-drop, plan-back, awaits, done-some, saves-of, begin-read, ready, turn-reads, holds-after, holds-first}
+use Rattle.log.proofs.Held.{Anchored, Holds, Back, Cons, ending-cons, head-drop, plan-back, awaits, done-some, saves-of, begin-read, keeps, saved-read, images-on, ready, turn-reads, holds-after, holds-first}
 use Rattle.log.proofs.Pass.{more-of, end-of, walk-some, at-after}
 use Rattle.log.proofs.Laid.{read-planned, Stood, stood-after, Sourced, sourced-next}
 
@@ -374,17 +374,31 @@ module _ {l : List ℕ} {s : State} {r : Rec} {rs : List Rec} (t : Toward l s (r
   pub toward-begins : s .opened ≡ none → r ≡ LB (readBegin (s .unit + 1) (drop (s .at) l))
   toward-begins e = begin-read s (drop (s .at) l) r e (toward-read t)
 
-  module _ {o : Open} (op : s .opened ≡ some o) (v : saves (o .start) ≡ false) where
+  module _ {o : Open} (op : s .opened ≡ some o) where
     -- where one is open, the record of its next step
-    pub toward-record : {x : Step} {xs : List Step} → o .todo ≡ x ∷ xs → r ≡ recordAt l (shown s) x
-    toward-record {x} {xs} e =
+    pub toward-record : saves (o .start) ≡ false → {x : Step} {xs : List Step} → o .todo ≡ x ∷ xs → r ≡ recordAt l (shown s) x
+    toward-record v {x} {xs} e =
         planned-at l s (o .did) x r (read-planned s o x xs (drop (s .at) l) r op v e (toward-read t))
         (λ org dest back q. toward-source t op v (e ∙ ap (λ (y : Step). y ∷ xs) q) .rows)
 
     -- of an LO, its rows
-    pub toward-takes : {org dest : ℕ} {xs : List Step} → o .todo ≡ takeOut org dest ∷ xs → Takes l (s .at)
-    toward-takes {org} {dest} {xs} e =
+    pub toward-takes : saves (o .start) ≡ false → {org dest : ℕ} {xs : List Step} → o .todo ≡ takeOut org dest ∷ xs → Takes l (s .at)
+    toward-takes v {org} {dest} {xs} e =
         takes-of l s (o .did) org dest r (read-planned s o (takeOut org dest) xs (drop (s .at) l) r op v e (toward-read t)) (toward-room t)
+
+    -- of a put or delete, an LG or the LE, with the images before it
+    pub toward-saved : saves (o .start) ≡ true → r ≡ savedAt l (shown s)
+    unfolding savedAt
+    toward-saved w =
+        let a : Anchored l s o = t .holds .anchored o op in
+        let u : (shown s) .unit .0 ≡ o .start .unit = unit-is s ∙ sym (keeps s o (t .holds .sound) op w .start) in
+        let k : (shown s) .at ≡ s .at = unfold shown in refl in
+        let is : List Image = imagesOf (o .did) [] in
+        saved-read s o (drop (s .at) l) r op w (toward-read t)
+        ∙ ap (λ (x : ℕ). pick (eqb (getD (drop x l) 1 0) (image .sign)) (LG (readImage (drop x l))) (LE (o .start .unit) is)) (sym k)
+        ∙ ap (λ (x : ℕ). pick (eqb (getD (drop ((shown s) .at) l) 1 0) (image .sign)) (LG (readImage (drop ((shown s) .at) l))) (LE x is)) (sym u)
+        ∙ ap (λ (x : List Image). pick (eqb (getD (drop ((shown s) .at) l) 1 0) (image .sign)) (LG (readImage (drop ((shown s) .at) l))) (LE ((shown s) .unit .0) x))
+        (sym (images-on l s o op w a))
 
 -- ---- a log that has grown by a record
 

@@ -7,7 +7,7 @@ use mathlib.Core.List.{List, [], _∷_}
 use mathlib.Core.Option.{Option, some, none}
 use lib.ListN.{length}
 use Rattle.field.specs.Bytes.{Bytes, most4}
-use Rattle.page.specs.Page.{ascendRecords}
+use Rattle.page.specs.Page.{ascendRecords, lastLeaf, formed}
 use Rattle.page.specs.Each.{Each, Long}
 use Rattle.log.specs.Record.{Check, Begin, saves, Image, Rec, LB, LO, LI, LM, LG, LE}
 use Rattle.log.specs.Plan.{Step, takeOut, bringIn, point, close}
@@ -69,3 +69,16 @@ pub record Small (c : Check) : Type 0 where
 pub record Good (g : Log) : Type 0 where
   pub top : Small (g .top)
   pub valid : Valid (first (g .top)) (g .recs)
+
+-- an image of a page from p on, in form
+pub record Lies (p : ℕ) (i : Image) : Type 0 where
+  pub low : p ≤ i .at
+  pub high : i .at ≤ lastLeaf
+  pub form : formed (i .at) (i .bytes) ≡ true
+  pub long : length (i .bytes) ≡ 256
+  pub bytes : Bytes (i .bytes)
+
+-- images of ascending pages from p on
+abbrev pub Filed : ℕ → List Image → Type 0
+Filed p [] = Unit {0}
+Filed p (i ∷ is) = Lies p i × Filed (i .at + 1) is

@@ -38,15 +38,7 @@ fn put_header(s: &mut [u8], at: usize, k: usize, long: u16, n: LogNo, prior: Log
 }
 
 // A header and a unit number: all of an LE, and the front of an LB that carries `rows` records.
-pub fn put_unit(
-    s: &mut [u8],
-    at: usize,
-    k: usize,
-    rows: u16,
-    n: LogNo,
-    prior: LogNo,
-    unit: UnitNo,
-)
+pub fn put_unit(s: &mut [u8], at: usize, k: usize, rows: u16, n: LogNo, prior: LogNo, unit: UnitNo)
     requires { ⌜ (k < 7) × (rows ≤ 15) × (at + end .fixed ≤ length (now s)) ⌝ }
     ensures { λ _. ⌜ now (s .exit) ≡ put at (unitHead (kindAt k) rows (n .0) (prior .0) (unit .0)) (now (s .entry)) ⌝ }
 {
@@ -248,7 +240,8 @@ pub fn put_save(s: &mut [u8], at: usize, n: LogNo, unit: UnitNo, kind: u8, r: &[
     requires { ⌜ (length (now r) ≡ begin .each) × (at + lengthOf begin 1 ≤ length (now s)) ⌝ }
     ensures { λ _. ⌜ now (s .exit) ≡ put at (encode (n .0) (LB (saveOf (unit .0) kind (now (r .entry))))) (now (s .entry)) ⌝ }
 {
-    let nothing = [0u16; 1];
+    let bases = [0u16; 1];
+    let leaves = [0u16; 1];
     put_start(
         s,
         at,
@@ -257,8 +250,8 @@ pub fn put_save(s: &mut [u8], at: usize, n: LogNo, unit: UnitNo, kind: u8, r: &[
         unit,
         kind,
         0,
-        &nothing[..0],
-        &nothing[..0],
+        &bases[..0],
+        &leaves[..0],
         PageNo(0),
     );
     field::copy(s, at + kind::size_of(kind::LB, 0), r);

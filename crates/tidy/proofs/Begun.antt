@@ -79,15 +79,15 @@ differ-two p q d = rw (ne-eqb p q d)
 
 -- a compact
 abbrev pub compactBegin : (u fill b : ℕ) (leaves : List ℕ) (d : ℕ) → Begin
-compactBegin u fill b leaves d = record { unit = u; type = 1; fill = fill; bases = b ∷ []; leaves = leaves; dest = d }
+compactBegin u fill b leaves d = record { unit = u; type = 1; fill = fill; bases = b ∷ []; leaves = leaves; dest = d; saved = [] }
 
 -- a move
 abbrev pub moveBegin : (u b a d : ℕ) → Begin
-moveBegin u b a d = record { unit = u; type = 3; fill = 0; bases = b ∷ []; leaves = a ∷ []; dest = d }
+moveBegin u b a d = record { unit = u; type = 3; fill = 0; bases = b ∷ []; leaves = a ∷ []; dest = d; saved = [] }
 
 -- a swap
 abbrev pub swapBegin : (u p q a b : ℕ) → Begin
-swapBegin u p q a b = record { unit = u; type = 2; fill = 0; bases = oneOrTwo p q; leaves = a ∷ b ∷ []; dest = 0 }
+swapBegin u p q a b = record { unit = u; type = 2; fill = 0; bases = oneOrTwo p q; leaves = a ∷ b ∷ []; dest = 0; saved = [] }
 
 -- by type
 ok-of : (g : Begin) → g .unit ≤ most4 → typeOk g ≡ true → onBases (g .bases) ≡ true → differ (g .bases) ≡ true → onLeaves (g .leaves) ≡ true

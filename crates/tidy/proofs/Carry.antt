@@ -45,10 +45,10 @@ one-step st c =
     }
 
 -- LE changes no page
-close-step : (n u : ℕ) (did : List Rec) (xs : List Step) (w : List ℕ) (s : State) → Shows w s → Stepped n did (close u) xs w (LE u) s
+close-step : (n u : ℕ) (did : List Rec) (xs : List Step) (w : List ℕ) (s : State) → Shows w s → Stepped n did (close u) xs w (LE u []) s
 unfolding nextRec targetOf pageOf stepSize size kindOf carried targets
 close-step n u did xs w s sh =
-    record { now = w; form = tt; next = refl; applied = apply-stays n (LE u) w refl; counted = refl; left = refl; shows = sh; top = refl }
+    record { now = w; form = tt; next = refl; applied = apply-stays n (LE u []) w refl; counted = refl; left = refl; shows = sh; top = refl }
 
 -- the page that an LM points to is no 0
 leaf-to : (new : ℕ) → 1 ≤ new → (new ≡ 0) ⊎ Leafy new → Leafy new

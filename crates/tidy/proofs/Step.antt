@@ -107,7 +107,7 @@ unfolding isLeaf
 shaped-leaf pg e = e
 
 -- the rows of the LO so far back, if there are any
-taken-moved : (i : ℕ) (did : List Rec) → AllMoved did → (carried (getD did i (LE 0)) ≡ []) ⊎ Moved (carried (getD did i (LE 0)))
+taken-moved : (i : ℕ) (did : List Rec) → AllMoved did → (outs (getD did i (LE 0 [])) ≡ []) ⊎ Moved (outs (getD did i (LE 0 [])))
 unfolding carried
 taken-moved i [] h = inl refl
 taken-moved zero (r ∷ did) h = h .0
@@ -131,8 +131,8 @@ module _ (n : ℕ) (did : List Rec) (xs : List Step) (w : List ℕ) (l : ℕ →
       let small : d < 64 = omega (arith, h .1) in
       let e : l d ≡ records pg = sh .leaves d ∙ leaf-at w d (h .0) in
       let m : Moved v = ⊎-elim
-      (λ (z : carried (getD did (back - 1) (LE 0)) ≡ []). absurd (omega (arith, ap full (ev ∙ z))))
-      (λ (q : Moved (carried (getD did (back - 1) (LE 0)))). rw ev q)
+      (λ (z : outs (getD did (back - 1) (LE 0 [])) ≡ []). absurd (omega (arith, ap full (ev ∙ z))))
+      (λ (q : Moved (outs (getD did (back - 1) (LE 0 [])))). rw ev q)
       (taken-moved (back - 1) did am) in
       let all-marked : Each (λ r. (getD r 0 0 ≡ 114) × (getD r 1 0 ≡ 99)) (records pg ++ v) =
       each-append (marked 114 99 0 (records pg) (leaf-order d h)) (marked 114 99 0 v (m .order)) in

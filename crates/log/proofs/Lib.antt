@@ -22,8 +22,8 @@ pub mod State
 pub mod Begin
 pub mod Plan
 pub mod Valid
-pub mod Sound
 pub mod Filed
+pub mod Sound
 pub mod Read
 pub mod Write
 pub mod Append

@@ -17,13 +17,14 @@ use Rattle.page.specs.Page.{keyOf}
 use Rattle.page.specs.Each.{Each}
 use Rattle.log.specs.Record.{Check, Begin, saves, Image, Rec, LB, LO, LI, LM, LG, LE, outs}
 use Rattle.log.specs.Plan.{Step, takeOut, bringIn, close, plan}
-use Rattle.log.specs.Log.{Open, State, first, largest, largestMoved, lkEnded, going, noting, openedBy, lkBy, unitBy, after, afterAll, beginOk, taken, Log, atEnd}
+use Rattle.log.specs.Log.{Open, State, first, largest, largestMoved, lkEnded, going, noting, openedBy, lkBy, unitBy, after, afterAll, beginOk, taken, imagesOf, follows, Log, atEnd}
 use Rattle.log.proofs.Record.{Narrow}
 use Rattle.log.proofs.State.{Every}
 use Rattle.log.proofs.Begin.{beginOk-unit}
 use Rattle.log.proofs.Plan.{Works, works-out, works-in, works-point, Ending, Fed, ending-rest, fed-rest, plan-ending, plan-fed, plan-saves, saves-type}
-use Rattle.log.specs.Valid.{Moved, Does, does-out, does-in, does-point, does-close, Logs, logs-image, logs-end, Follows, begins, goes, logs, Fits, Valid, Small, Good}
+use Rattle.log.specs.Valid.{Moved, Does, does-out, does-in, does-point, does-close, Logs, logs-image, logs-end, Follows, begins, goes, logs, Fits, Valid, Small, Good, Filed}
 use Rattle.log.proofs.Valid.{does-narrow}
+use Rattle.log.proofs.Filed.{image-filed}
 
 -- ---- the largest key moved
 
@@ -86,6 +87,7 @@ pub record Keeps (u : ℕ) (o : Open) : Type 0 where
   pub ok : beginOk (o .start) ≡ true
   pub saves : saves (o .start) ≡ true
   pub images : Imaged (o .did)
+  pub filed : Filed 0 (imagesOf (o .did) [])
   pub todo : o .todo ≡ close u ∷ []
 
 -- the records done fit their bytes
@@ -180,14 +182,15 @@ waits-going {u} {o} {x} {xs} w e d a =
 
 -- a unit that has just begun
 waits-begun : (g : Begin) → beginOk g ≡ true → (t : Bool) → saves g ≡ t → Waits (g .unit) (some (record { start = g; did = []; todo = plan g }))
-waits-begun g ok true v = open-save (record { start = refl; ok = ok; saves = v; images = no-image; todo = plan-saves g v })
+waits-begun g ok true v = open-save (record { start = refl; ok = ok; saves = v; images = no-image; filed = unfold imagesOf in tt; todo = plan-saves g v })
 waits-begun g ok false v =
     open-unit (record { start = refl; ok = ok; plain = v; past = []; done = nil; whole = refl; fed = plan-fed g; todo = plan-ending g })
 
 -- an open put or delete after an LG
-waits-noting : {u : ℕ} {o : Open} (i : Image) → Keeps u o → Keeps u (noting (LG i) o)
-unfolding noting
-waits-noting i k = record { start = k .start; ok = k .ok; saves = k .saves; images = an-image (k .images); todo = k .todo }
+waits-noting : {u : ℕ} {o : Open} (i : Image) → follows (imagesOf (o .did) []) i ≡ true → length (i .bytes) ≡ 256 → Bytes (i .bytes) → Keeps u o → Keeps u (noting (LG i) o)
+unfolding noting imagesOf
+waits-noting {o = o} i f l b k =
+    record { start = k .start; ok = k .ok; saves = k .saves; images = an-image (k .images); filed = image-filed (o .did) i f l b (k .filed); todo = k .todo }
 
 -- the unit that is open after a record
 waits-after : {u : ℕ} {o : Option Open} {r : Rec} → Follows u o r → Waits u o → Waits (unitBy r u) (openedBy r o)
@@ -197,7 +200,7 @@ waits-after (goes v e (does-out m)) w = open-unit (waits-going works-out e (does
 waits-after (goes v e (does-in q)) w = open-unit (waits-going works-in e (does-in q) (waits-open w v))
 waits-after (goes v e (does-point h)) w = open-unit (waits-going works-point e (does-point h) (waits-open w v))
 waits-after (goes v e does-close) w = shut
-waits-after (logs v (logs-image {i = i} f l b)) w = open-save (waits-noting i (waits-save w v))
+waits-after (logs v (logs-image {i = i} f l b)) w = open-save (waits-noting i f l b (waits-save w v))
 waits-after (logs v (logs-end h)) w = shut
 
 -- its number

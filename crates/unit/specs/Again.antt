@@ -1,16 +1,19 @@
 -- A record of the log repeated, by the numbers of the walk that has reached it. Assumes nothing.
 use Prim.Native.Nat.{ℕ, _+_, _*_, _≤_, _<_}
 use mathlib.Core.Path.{_≡_}
-use mathlib.Core.Bool.{Bool, true}
+use mathlib.Core.Bool.{Bool, true, false}
 use mathlib.Core.List.{List}
 use mathlib.Core.Option.{Option, some}
 use lib.ListN.{length, drop, getD}
 use Rattle.field.specs.Test.{pick, bind, there}
 use Rattle.field.specs.Bytes.{le2}
 use Rattle.page.specs.Page.{ascendRecords}
+use Rattle.log.specs.Record.{begin, image, lengthOf}
 use Rattle.log.specs.Plan.{Step, takeOut, bringIn, point, close, plan}
-use Rattle.log.specs.Log.{beginOk, readBegin, readLog}
-use Rattle.log.specs.Source.{sourceAt, sourceRows, sourced, recordAt}
+use Rattle.log.specs.Log.{beginOk, savesAt, readBegin, readLog}
+use Rattle.log.specs.Valid.{Filed}
+use Rattle.log.specs.Scan.{imagesOn}
+use Rattle.log.specs.Source.{sourceAt, sourceRows, sourced, recordAt, savedAt}
 use Rattle.log.specs.declared.scan.Walk.{Walk}
 use Rattle.unit.specs.Next.{repeat, repeatAll}
 

@@ -19,7 +19,7 @@ use Rattle.log.specs.Source.{sourceAt, sourceRows, sourced, recordAt}
 use Rattle.log.specs.declared.scan.Walk.{Walk}
 use Rattle.log.specs.declared.steps.Planned.{Planned}
 use Rattle.log.specs.declared.steps.Planned.the-variants.{Out, In, Point, Close}
-use Rattle.unit.specs.Next.{targets, repeat}
+use Rattle.unit.specs.Next.{placesOf, targets, repeat}
 use Rattle.unit.specs.Made.{Did}
 use Rattle.field.specs.declared.PageNo.{PageNo}
 use Rattle.field.specs.declared.UnitNo.{UnitNo}
@@ -105,5 +105,5 @@ module _ (n : ℕ) (l : List ℕ) (w : Walk) (p : Planned) (v v′ : List ℕ) (
   step-point! base old new other e d = rw e (d other)
 
 pub step-close! : (n : ℕ) (l : List ℕ) (w : Walk) (p : Planned) (v : List ℕ) (unit : UnitNo) → p ≡ Close unit → Did (repeat n (recordAt l w (stepOf p)) v) v true v
-unfolding stepOf recordAt targets
+unfolding stepOf recordAt targets placesOf
 step-close! n l w p v unit e = rw e (did-some _ v v v (repeat-stays n (LE (unit .0) []) v refl) refl)

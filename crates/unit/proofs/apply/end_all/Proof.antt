@@ -27,7 +27,7 @@ size-of-requires-2 c κs = search needs
 
 loop-holds : tie.Need-loop-holds Inv-loop μ-loop
 unfolding lengthOf kindAt kinds
-loop-holds c = let a = c .before .before .before .before in (a .pre .0, omega arith, omega (arith, a .pre .1), filed-inside 0 _ (a .pre .2), refl)
+loop-holds c = let a = c .before .before .before .before in (a .pre .0, omega arith, omega (arith, a .pre .1), filed-inside 0 (imagesIn (a .args .k) (a .args .m .now)) (a .pre .2), refl)
 
 add-get2 : tie.Need-add-get2 Inv-loop μ-loop
 add-get2 c = omega arith

@@ -1,2 +1,2 @@
--- Laws about each way through the calls' tests.
+-- Laws about each way through the call's tests.
 pub mod Lists

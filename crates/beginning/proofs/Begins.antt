@@ -7,33 +7,27 @@ use mathlib.Core.List.{List, []}
 use mathlib.Core.Option.{Option, some, none}
 use lib.ListN.{length}
 use lib.Dec.{leb}
-use borrow.Author.Tests.{le-leb, lt-leb, not-true, not-false}
+use borrow.Author.Tests.{le-leb, lt-leb}
 use Rattle.field.specs.Test.{need, given, when, there}
-use Rattle.field.specs.Bytes.{put, most4}
-use Rattle.field.proofs.Test.{bind-some, when-some, both-intro, both-true, both-false, need-true, need-false, given-some, given-none}
+use Rattle.field.proofs.Test.{bind-some, when-some, need-true, need-false, given-some, given-none}
 use Rattle.page.specs.Pages.{pages, allFormed}
-use Rattle.log.specs.Record.{Begin, LB, lengthOf, kindOf, carried, size, encode}
-use Rattle.log.specs.Plan.{plan}
-use Rattle.log.specs.Log.{State, after, Log, readLog, atEnd}
+use Rattle.log.specs.Record.{Begin}
+use Rattle.log.specs.Log.{State, Log, readLog, atEnd}
 use Rattle.log.specs.Scan.{shown, scanned}
-use Rattle.log.specs.Table.{kinds, kindAt}
-use Rattle.log.specs.Write.{beginOf}
 use Rattle.log.specs.declared.scan.Scan.{Scan}
-use Rattle.log.specs.declared.scan.Walk.{Walk}
 use Rattle.log.proofs.Read.{readLog-facts}
 use Rattle.tree.specs.Tree.{wellFormed}
 use Rattle.unit.specs.Choice.{compactUnit, orderUnit}
 use Rattle.unit.specs.Chosen.{Picks}
-use Rattle.unit.specs.Next.{room}
 use Rattle.unit.specs.declared.choice.Choice.{Choice}
-use Rattle.store.specs.Calls.{Lent, lent, Left, left, refused, twoSized, known, stepped, begun, beginWith, beginCompact, beginOrder}
-use Rattle.beginning.specs.Begins.{unready, recordOf}
+use Rattle.store.specs.Calls.{Lent, lent, Left, left, refused, twoSized, known, begun, beginWith, beginCompact, beginOrder}
+use Rattle.starting.specs.Begins.{unready, recordOf}
 use Rattle.store.specs.Knows.{knows}
 use Rattle.store.proofs.Chain.{two-no-work, two-no-log, two-sized}
 use Rattle.store.proofs.Passed.{Knows, knows-yes, knows-no}
-use Rattle.store.proofs.Ending.{end-at, end-opened, end-lk, shown-at, shown-number, shown-unit}
+use Rattle.store.proofs.Ending.{end-at, end-opened, end-lk}
 use Rattle.store.proofs.Replies.{refused-as}
-use Rattle.beginning.proofs.Units.{room-any, length-any, picked, none-picked}
+use Rattle.beginning.proofs.Units.{picked, none-picked}
 
 -- ---- tests 9, 3 and 8
 
@@ -85,125 +79,6 @@ module _ (d : Lent) (s : State) (choose : ℕ → List (List ℕ) → Option Beg
     pub begin-begun : (b : Begin) → choose (s .unit + 1) (pages (d .work)) ≡ some b → beginWith d s choose ≡ begun d s b
     unfolding beginWith unready
     begin-begun b q = passed-by d _ (there (s .opened)) _ _ e ∙ given-some _ b (refused 0 11 d) _ q
-
--- the three tests, for `search`
-module _ (o : Bool) (w : List ℕ) where
-  pub unready-open! : o ≡ true → 9 ≡ unready o w
-  unfolding unready need
-  unready-open! e = rw e
-
-  pub unready-pages! : o ≡ false → (z : Bool) → z ≡ allFormed 0 (pages w) → not z ≡ true → 3 ≡ unready o w
-  unfolding unready need
-  unready-pages! e z i n = rw (e, ← i, not-true z n)
-
-  module _ (e : o ≡ false) (z : Bool) (i : z ≡ allFormed 0 (pages w)) (n : not z ≡ false) (x : Bool) (j : x ≡ wellFormed (pages w)) where
-    pub unready-tree! : not x ≡ true → 8 ≡ unready o w
-    unfolding unready need
-    unready-tree! m = rw (e, ← i, not-false z n, ← j, not-true x m)
-
-    pub unready-none! : not x ≡ false → 0 ≡ unready o w
-    unfolding unready need
-    unready-none! m = rw (e, ← i, not-false z n, ← j, not-false x m)
-
--- ---- tests 6 and 7
-
-module _ (d : Lent) (s : State) (c : Choice) where
-  -- the begin record
-  abbrev lb : Begin
-  lb = recordOf c (s .unit + 1)
-
-  -- the bytes and the records after it
-  abbrev bytes : ℕ
-  bytes = room (d .work) (plan (recordOf c 0))
-
-  abbrev many : ℕ
-  many = length (plan (recordOf c 0))
-
-  pub begun-room : 8192 < s .at + 44 + bytes → begun d s lb ≡ refused 0 6 d
-  unfolding begun size lengthOf kindOf carried
-  begun-room h =
-      let e : room (d .work) (plan lb) ≡ bytes = room-any c (s .unit + 1) (d .work) in
-      need-false _ (refused 0 6 d) _ (lt-leb (s .at + (44 + room (d .work) (plan lb))) 8192 (omega arith))
-
-  module _ (h : s .at + 44 + bytes ≤ 8192) where
-    fits : leb (s .at + (44 + room (d .work) (plan lb))) 8192 ≡ true
-    fits =
-        let e : room (d .work) (plan lb) ≡ bytes = room-any c (s .unit + 1) (d .work) in
-        le-leb (s .at + (44 + room (d .work) (plan lb))) 8192 (omega arith)
-
-    pub begun-number : 4294967295 < s .number + 1 + many → begun d s lb ≡ refused 0 7 d
-    unfolding begun size lengthOf kindOf carried
-    begun-number n =
-        let e : length (plan lb) ≡ many = length-any c (s .unit + 1) in
-        need-true _ (refused 0 6 d) _ fits ∙ need-false _ (refused 0 7 d) _ (both-false _ _ (lt-leb (s .number + (1 + length (plan lb))) most4 (omega arith)))
-
-    module _ (n : s .number + 1 + many ≤ 4294967295) where
-      counts : leb (s .number + (1 + length (plan lb))) most4 ≡ true
-      counts =
-          let e : length (plan lb) ≡ many = length-any c (s .unit + 1) in
-          le-leb (s .number + (1 + length (plan lb))) most4 (omega arith)
-
-      pub begun-unit : 4294967295 ≤ s .unit → begun d s lb ≡ refused 0 7 d
-      unfolding begun size lengthOf kindOf carried recordOf beginOf
-      begun-unit u =
-          need-true _ (refused 0 6 d) _ fits
-          ∙ need-false _ (refused 0 7 d) _ (both-true _ _ counts ∙ lt-leb (s .unit + 1) most4 (omega arith))
-
-      pub begun-begins : s .unit < 4294967295
-          → begun d s lb ≡ left 0 [] (lent (s .at + 44) (d .forced) (d .work) (d .store) (put (s .at) (encode (s .number + 1) (LB lb)) (d .log)) (d .bytes))
-      unfolding begun stepped after size lengthOf kindOf carried recordOf beginOf
-      begun-begins u =
-          need-true _ (refused 0 6 d) _ fits
-          ∙ need-true _ (refused 0 7 d) _ (both-intro _ _ counts (le-leb (s .unit + 1) most4 (omega arith)))
-
--- an LB's length, off the table
-pub lb-long : (n : ℕ) → n ≡ lengthOf (kindAt 1) 0 → n ≡ 44
-unfolding lengthOf kindAt kinds
-lb-long n e = e
-
--- the answers of the code that makes them, at a log's end s with the numbers w; long is an LB's length
-module _ (used forced : ℕ) (work log : List ℕ) (w : Walk) (c : Choice) (s : State) (e : w ≡ shown s) (long bytes steps : ℕ)
-    (i : long ≡ lengthOf (kindAt 1) 0) (j : bytes ≡ room work (plan (recordOf c 0))) (k : steps ≡ length (plan (recordOf c 0))) where
-  abbrev given-to : Lent
-  given-to = lent used forced work [] log []
-
-  abbrev meant : Left
-  meant = begun given-to s (recordOf c (s .unit + 1))
-
-  long-is : long ≡ 44
-  long-is = lb-long long i
-
-  at-is : w .at ≡ s .at
-  at-is = shown-at w s e
-
-  number-is : w .number .0 ≡ s .number
-  number-is = shown-number w s e
-
-  unit-is : w .unit .0 ≡ s .unit
-  unit-is = shown-unit w s e
-
-  module _ (v u f : ℕ) where
-    abbrev kept : Left
-    kept = left v [] (lent u f work [] log [])
-
-    pub unit-room : (v ≡ 6) × (u ≡ used) × (f ≡ forced) → 8192 < w .at + long + bytes → kept ≡ meant
-    unit-room q h = refused-as given-to 6 v u f meant (begun-room given-to s c (omega (arith, long-is, at-is))) q
-
-    pub unit-number : (v ≡ 7) × (u ≡ used) × (f ≡ forced) → w .at + long + bytes ≤ 8192 → 4294967295 < w .number .0 + 1 + steps → kept ≡ meant
-    unit-number q h n =
-        refused-as given-to 7 v u f meant (begun-number given-to s c (omega (arith, long-is, at-is)) (omega (arith, number-is))) q
-
-    pub unit-last : (v ≡ 7) × (u ≡ used) × (f ≡ forced) → w .at + long + bytes ≤ 8192 → w .number .0 + 1 + steps ≤ 4294967295 → 4294967295 ≤ w .unit .0 → kept ≡ meant
-    unit-last q h n m =
-        refused-as given-to 7 v u f meant
-        (begun-unit given-to s c (omega (arith, long-is, at-is)) (omega (arith, number-is)) (omega (arith, unit-is))) q
-
-  pub unit-begun : w .at + long + bytes ≤ 8192 → w .number .0 + 1 + steps ≤ 4294967295 → w .unit .0 < 4294967295
-      → (l : List ℕ) → l ≡ put (w .at) (encode (w .number .0 + 1) (LB (recordOf c (w .unit .0 + 1)))) log
-      → left 0 [] (lent (w .at + long) forced work [] l []) ≡ meant
-  unit-begun h n m l q =
-      rw (q, long-is, at-is, number-is, unit-is)
-      (sym (begun-begins given-to s c (omega (arith, long-is, at-is)) (omega (arith, number-is)) (omega (arith, unit-is))))
 
 -- ---- the begins
 

@@ -1,8 +1,8 @@
 // Writing what a command left, and the state after it.
 use crate::state;
 use crate::state::State;
-use answering::FindAnswer;
 use answering::ListAnswer;
+use finding::FindAnswer;
 use recovering::RecoverAnswer;
 use store::Answer;
 

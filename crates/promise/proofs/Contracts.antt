@@ -25,7 +25,7 @@ use Rattle.stepping.proofs.step as step
 use Rattle.flushing.proofs.flush as flush
 use Rattle.forcing.proofs.force as force
 use Rattle.checkpointing.proofs.checkpoint as checkpoint
-use Rattle.answering.proofs.find as find
+use Rattle.finding.proofs.find as find
 use Rattle.answering.proofs.list as list
 use Rattle.promise.specs.Fixed.{Result, replied, recovered, found, listed}
 

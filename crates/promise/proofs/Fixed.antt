@@ -6,7 +6,7 @@ use lib.ListN.{getD}
 use lib.Dec.{eqb}
 use Rattle.field.specs.Test.{pick}
 use Rattle.store.specs.declared.known.Numbers.{Numbers}
-use Rattle.answering.specs.declared.listing.ListAnswer.{ListAnswer}
+use Rattle.answering.specs.declared.ListAnswer.{ListAnswer}
 use Rattle.store.specs.Calls.{Left}
 use Rattle.promise.specs.Fixed.{Result, replied, recovered, found, listed, Fixes, Fixed}
 

@@ -8,9 +8,9 @@ use mathlib.Core.List.{List, [], _∷_}
 use Rattle.field.specs.Test.{pick}
 use Rattle.store.specs.declared.known.Numbers.{Numbers}
 use Rattle.store.specs.declared.known.Answer.{Answer}
-use Rattle.answering.specs.declared.looking.FindAnswer.{FindAnswer}
-use Rattle.answering.specs.declared.listing.ListAnswer.{ListAnswer}
-use Rattle.recovering.specs.declared.RecoverAnswer.{RecoverAnswer}
+use Rattle.finding.specs.declared.FindAnswer.{FindAnswer}
+use Rattle.answering.specs.declared.ListAnswer.{ListAnswer}
+use Rattle.waking.specs.declared.RecoverAnswer.{RecoverAnswer}
 use Rattle.store.specs.Calls.{Lent, lent, Left, left}
 use Rattle.store.specs.Calls as Calls
 

@@ -25,11 +25,11 @@ use Rattle.tree.proofs.Between.{key-small}
 use Rattle.tree.proofs.Listing.{between-append}
 use Rattle.tree.proofs.Sound.{each-map, each-left, each-right}
 use Rattle.tree.proofs.Onward.{below-append, below-drop, below-done, root-over, sound-over, each-under, come-end, all-from, from-done}
-use Rattle.range.specs.Reading.{place, theEnd, entryTo, rowsBelow, firstFrom}
-use Rattle.range.proofs.Passed.{below-most, below-front, below-at, below-next, below-some}
+use Rattle.ranging.specs.Reading.{place, theEnd, entryTo, rowsBelow, firstFrom}
+use Rattle.ranging.proofs.Passed.{below-most, below-front, below-at, below-next, below-some}
 use Rattle.range.proofs.Rising.{Rising, From, Filled, ascend-rising, rising-least, rising-rest, kept-back, below-rising, below-before}
 use Rattle.range.proofs.Bounds.{between-none, between-all}
-use Rattle.range.proofs.Descend.{sound-starts, sound-kept, head-key, top-few, seek-none, top-over, base-some, base-few, base-spot, seek-at}
+use Rattle.ranging.proofs.Descend.{sound-starts, sound-kept, head-key, top-few, seek-none, top-over, base-some, base-few, base-spot, seek-at}
 use Rattle.range.proofs.Standing.{Seat, Comes, end-standing, root-to, base-to, settled-comes}
 
 -- ---- lists cut around an element

@@ -26,10 +26,10 @@ use Rattle.tree.specs.declared.walk.Place.{Place}
 use Rattle.tree.proofs.Regions.{decide}
 use Rattle.tree.proofs.Listing.{between-few}
 use Rattle.tree.proofs.Onward.{come-end, all-from}
-use Rattle.range.specs.Reading.{theEnd, step, nothing, settled, nextFrom, firstFrom, startFrom}
+use Rattle.ranging.specs.Reading.{theEnd, step, nothing, settled, nextFrom, firstFrom, startFrom}
 use Rattle.range.specs.Walked.{recordOf, walked, upTo, GivesList, GivesAll, GivesRange, GivesNone}
-use Rattle.range.specs.declared.steps.Reached.{Reached}
-use Rattle.range.proofs.Tested.{next-unsized, next-end, start-unsized, start-broken, start-unwell, start-well}
+use Rattle.ranging.specs.declared.Reached.{Reached}
+use Rattle.ranging.proofs.Tested.{next-unsized, next-end, start-unsized, start-broken, start-unwell, start-well}
 use Rattle.range.proofs.Bounds.{upTo-none, upTo-here, upTo-stop, upTo-between}
 use Rattle.range.proofs.Standing.{leaf-kind, Seat, Standing, recordAt, next-is, next-comes, come-now}
 use Rattle.range.proofs.Few.{tree-few}

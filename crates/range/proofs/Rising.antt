@@ -17,8 +17,8 @@ use Rattle.page.proofs.Order.{ascend-facts}
 use Rattle.tree.specs.Tree.{under, below, lower, keysBetween, keysKept}
 use Rattle.tree.specs.Walk.{bound}
 use Rattle.tree.proofs.Sound.{each-map}
-use Rattle.range.specs.Reading.{rowsBelow}
-use Rattle.range.proofs.Passed.{below-cons, below-stop}
+use Rattle.ranging.specs.Reading.{rowsBelow}
+use Rattle.ranging.proofs.Passed.{below-cons, below-stop}
 
 -- keys ascend strictly, the first being at least lo
 abbrev pub Rising : (lo : ℕ) → List (List ℕ) → Type 0

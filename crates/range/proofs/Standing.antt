@@ -19,8 +19,8 @@ use Rattle.tree.specs.Reader.{Sound, fromRoot, behind, toCome}
 use Rattle.tree.specs.declared.walk.Place.{Place}
 use Rattle.tree.proofs.Regions.{as-root, as-empty, as-base, as-leaf, formed-kind, empty-none, root-points, base-points}
 use Rattle.tree.proofs.Onward.{root-over, leaf-spot, come-on, come-end, come-first, there-come, behind-base, root-come, from-done}
-use Rattle.range.specs.Reading.{place, theEnd, hasTop, hasEntry, hasRecord, entryTo, firstBelow, leafAfter, settled, step, nextFrom}
-use Rattle.range.proofs.Tested.{row-true, row-false, after-here, after-end, after-top, settled-here, settled-on, next-there}
+use Rattle.ranging.specs.Reading.{place, theEnd, hasTop, hasEntry, hasRecord, entryTo, firstBelow, leafAfter, settled, step, nextFrom}
+use Rattle.ranging.proofs.Tested.{row-true, row-false, after-here, after-end, after-top, settled-here, settled-on, next-there}
 
 -- ---- the kinds of the pages
 

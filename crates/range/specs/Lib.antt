@@ -1,3 +1,2 @@
--- The range reader: where it starts, what each step gives, and the records of its whole walk.
-pub mod Reading
+-- The records of a range reader's whole walk.
 pub mod Walked

@@ -10,8 +10,8 @@ use Rattle.page.specs.Page.{keyOf}
 use Rattle.tree.specs.Answer.{inBounds}
 use Rattle.tree.specs.Reader.{Sound}
 use Rattle.tree.specs.declared.walk.Place.{Place}
-use Rattle.range.specs.declared.steps.Step.{Step}
-use Rattle.range.specs.Reading.{nextFrom, startFrom}
+use Rattle.ranging.specs.declared.Step.{Step}
+use Rattle.ranging.specs.Reading.{nextFrom, startFrom}
 
 -- the record that a step gives: mark `rc`, key (4), value (10)
 unfoldable pub recordOf : Step → List ℕ

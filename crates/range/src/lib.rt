@@ -1,14 +1,12 @@
-// The range reader: it carries the lent work pages along while it walks through the records in key order. The work is done in `steps`, on the
+// The range reader: it carries the lent work pages along while it walks through the records in key order. The work is done in `ranging`, on the
 // pages and a position; the functions here take the reader apart, call that and put it together again. A reader of pages that list would
 // refuse has list's reply and gives no record; one that is made up, of any pages and any position, gives a record or none and reads
 // nothing outside the pages.
 ghost use mathlib.Core.Path.{_≡_};
-ghost use Rattle.range.specs.Reading.{startFrom, nextFrom};
-use crate::steps::Reached;
-use crate::steps::Step;
+ghost use Rattle.ranging.specs.Reading.{startFrom, nextFrom};
+use ranging::Reached;
+use ranging::Step;
 use tree::walk::Place;
-
-pub mod steps;
 
 // The lent work pages, list's reply of them, and the position of the next record.
 pub struct RangeReader<'a> {
@@ -21,7 +19,7 @@ pub struct RangeReader<'a> {
 pub fn start<'a>(pages: &'a [u8], key: u32) -> RangeReader<'a>
     ensures started { λ r. ⌜ (r .pages ≡ pages .entry) × (r .reply ≡ startFrom (now (pages .entry)) key .reply) × (r .at ≡ startFrom (now (pages .entry)) key .at) ⌝ }
 {
-    let s = steps::start_at(pages, key);
+    let s = ranging::start_at(pages, key);
     RangeReader {
         pages: pages,
         reply: s.reply,
@@ -34,7 +32,7 @@ pub fn advance<'s, 'a>(r: &'s mut RangeReader<'a>) -> Step
     ensures advanced { λ s. ⌜ (s ≡ nextFrom (now (now (r .entry) .pages)) (now (r .entry) .at)) × (now (r .exit) .pages ≡ now (r .entry) .pages)
         × (now (r .exit) .reply ≡ now (r .entry) .reply) × (now (r .exit) .at ≡ s .next) ⌝ }
 {
-    let s = steps::step_at(r.pages, r.at);
+    let s = ranging::step_at(r.pages, r.at);
     r.at = s.next;
     s
 }

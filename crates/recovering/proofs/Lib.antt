@@ -1,4 +1,3 @@
 -- Laws about each way through the call.
 pub mod Finishing
-pub mod Newer
 pub mod Recovers

@@ -71,10 +71,6 @@ module _ (d : Lent) where
 
 -- ---- refusals
 
--- zeros over all pages
-pub all-blank : (w : List ℕ) → length w ≡ 16384 → put 0 (zeroes 16384) w ≡ zeroes 16384
-all-blank w h = put-whole (zeroes 16384) w (length-zeroes 16384 ∙ sym h)
-
 -- zeros behind the end as found restore the log
 pub restored : (l l′ : List ℕ) (g : Log) (at : ℕ) → readLog l ≡ some g → at ≡ atEnd g .at → length l ≡ 8192 → length l′ ≡ 8192 → take at l′ ≡ take at l
     → put at (zeroes (8192 - at)) l′ ≡ l

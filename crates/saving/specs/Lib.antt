@@ -1,2 +1,4 @@
--- Saving and deleting: the pages that a put or a delete changes.
+-- Saving and deleting: the pages that a put or a delete changes; a changed page as the code holds it; the way down to a key.
 pub mod Save
+pub mod Draft
+pub mod Route

@@ -1,8 +1,8 @@
 -- Find's answer, a reply and ten bytes beside the numbers, for `Outer.antt`. Assumes `Given`.
 use mathlib.Core.Path.{refl}
 use denote.Struct.Laws as SL
-use Rattle.answering.proofs.looking.FindAnswer as A
-use Rattle.answering.proofs.looking.FindAnswer.Laws as A′
+use Rattle.finding.proofs.FindAnswer as A
+use Rattle.finding.proofs.FindAnswer.Laws as A′
 use Rattle.tree.proofs.find.Found as X
 use Rattle.tree.proofs.find.Found.Laws as X′
 use Rattle.uhtlight.proofs.Outer.{Answered}

@@ -1,10 +1,10 @@
 -- List's answer, a reply, a count and whether more remain, beside the numbers, for `Outer.antt`. Assumes `Given`.
 use mathlib.Core.Path.{refl}
 use denote.Struct.Laws as SL
-use Rattle.answering.proofs.listing.ListAnswer as A
-use Rattle.answering.proofs.listing.ListAnswer.Laws as A′
-use Rattle.answering.proofs.listing.Listed as X
-use Rattle.answering.proofs.listing.Listed.Laws as X′
+use Rattle.answering.proofs.ListAnswer as A
+use Rattle.answering.proofs.ListAnswer.Laws as A′
+use Rattle.answering.proofs.Listed as X
+use Rattle.answering.proofs.Listed.Laws as X′
 use Rattle.uhtlight.proofs.Outer.{Answered}
 use Rattle.uhtlight.proofs.OfStruct.{Paired, ofStruct}
 

@@ -1,10 +1,10 @@
 -- Recovery's answer, a reply and the count of records appended, beside the numbers, for `Outer.antt`. Assumes `Given`.
 use mathlib.Core.Path.{refl}
 use denote.Struct.Laws as SL
-use Rattle.recovering.proofs.RecoverAnswer as A
-use Rattle.recovering.proofs.RecoverAnswer.Laws as A′
-use Rattle.recovering.proofs.Recovered as X
-use Rattle.recovering.proofs.Recovered.Laws as X′
+use Rattle.waking.proofs.RecoverAnswer as A
+use Rattle.waking.proofs.RecoverAnswer.Laws as A′
+use Rattle.waking.proofs.Recovered as X
+use Rattle.waking.proofs.Recovered.Laws as X′
 use Rattle.uhtlight.proofs.Outer.{Answered}
 use Rattle.uhtlight.proofs.OfStruct.{Paired, ofStruct}
 

@@ -4,11 +4,11 @@
 ghost use mathlib.Core.Path.{_≡_};
 ghost use mathlib.Core.List.{[], _∷_};
 ghost use Rattle.field.specs.Test.{pick};
-ghost use Rattle.range.specs.Reading.{startFrom, nextFrom};
+ghost use Rattle.ranging.specs.Reading.{startFrom, nextFrom};
 ghost use Rattle.store.specs.Calls.{lent, left, build, recover, beginCompact, beginOrder, step, flush, force, checkpoint, find, list};
 use answering::Listed;
-use range::steps::Reached;
-use range::steps::Step;
+use ranging::Reached;
+use ranging::Step;
 use recovering::Recovered;
 use store::Numbers;
 use tree::find::Found;
@@ -138,7 +138,7 @@ pub extern "C" fn uhtlight_find(n: &mut Numbers, work: &[u8], log: &[u8], key: u
     ensures found { λ r. ⌜ left (r .reply) (r .value) (lent (now (n .exit) .used) (now (n .exit) .forced) (now (work .entry)) [] (now (log .entry)) [])
         ≡ find key (lent (now (n .entry) .used) (now (n .entry) .forced) (now (work .entry)) [] (now (log .entry)) []) ⌝ }
 {
-    let a = answering::find(*n, work, log, key);
+    let a = finding::find(*n, work, log, key);
     *n = a.numbers;
     a.found
 }

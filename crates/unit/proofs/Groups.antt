@@ -56,7 +56,7 @@ module _ (low c : ℕ) where
     pub low-end! : c ≤ p → c ≡ lowestEmpty low c 0 (pages w)
     low-end! h = sym (e ∙ low-past p (drop p (pages w)) h)
 
-    module _ (z : Bool) (k : z ≡ emptyLeaf p (page p w)) (h : p < c) (above : low < p) (small : c < 64) where
+    module _ (z : Bool) (k : z ≡ emptyLeaf p (page p w)) (h : p < c) (above : low < p) (small : c ≤ 64) where
       turn : lowestEmpty low c 0 (pages w) ≡ pick z p (lowestEmpty low c (p + 1) (drop (p + 1) (pages w)))
       unfolding lowestEmpty
       turn = e ∙ rw (pages-next p w (omega arith), lt-ltb low p above, lt-ltb p c h, k) (unfold all both in rw (both-end (emptyLeaf p (page p w))))

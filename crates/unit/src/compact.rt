@@ -43,8 +43,8 @@ fn larger(a: PageNo, b: PageNo) -> PageNo
 }
 
 // The lowest empty leaf page above `low` and below c, c where there is none.
-fn lowest_empty(w: &[u8], low: PageNo, c: PageNo) -> PageNo
-    requires { ⌜ InForm (now w) × Low (low .0) × (c .0 < 64) ⌝ }
+pub fn lowest_empty(w: &[u8], low: PageNo, c: PageNo) -> PageNo
+    requires { ⌜ InForm (now w) × Low (low .0) × (c .0 ≤ 64) ⌝ }
     ensures { λ r. ⌜ r .0 ≡ lowestEmpty (low .0) (c .0) 0 (pages (now (w .entry))) ⌝ }
 {
     let above = low.0;

@@ -1,4 +1,4 @@
--- `range::advance` meets its contract: the reader's borrow is opened, its pages and position go to `steps::step_at`, the position that comes back
+-- `range::advance` meets its contract: the reader's borrow is opened, its pages and position go to `ranging::step_at`, the position that comes back
 -- is stored, and the borrow is closed at the reader moved on. The reader is Copy: what it owns is had twice, and one goes to the core.
 -- Assumes nothing.
 use mathlib.Core.Path.{_≡_, refl, ap}
@@ -39,16 +39,16 @@ use denote.Triple.Spec.{tripleOf}
 use Rattle.walks.proofs.Meeting.{asks-nothing, leaves, WalksOver, met-over}
 use Rattle.tree.proofs.walk.Place as P
 use Rattle.tree.proofs.walk.Place.Laws as P′
-use Rattle.range.specs.Reading.{nextFrom}
+use Rattle.ranging.specs.Reading.{nextFrom}
 use Rattle.range.specs.declared.RangeReader.{RangeReader}
-use Rattle.range.specs.declared.steps.Step.{Step}
+use Rattle.ranging.specs.declared.Step.{Step}
 use Rattle.range.proofs.RangeReader as R
 use Rattle.range.proofs.RangeReader.Laws as R′
-use Rattle.range.proofs.steps.Step as S
-use Rattle.range.proofs.steps.Step.Laws as S′
-use Rattle.range.proofs.steps.step_at as core
-use Rattle.range.proofs.steps.step_at.Symbol as core-def
-use Rattle.range.proofs.steps.step_at.Met as core-thm
+use Rattle.ranging.proofs.Step as S
+use Rattle.ranging.proofs.Step.Laws as S′
+use Rattle.ranging.proofs.step_at as core
+use Rattle.ranging.proofs.step_at.Symbol as core-def
+use Rattle.ranging.proofs.step_at.Met as core-thm
 use Rattle.range.proofs.Held.{releases}
 use Rattle.range.proofs.advance as f
 use Rattle.range.proofs.advance.Key as key
@@ -139,5 +139,5 @@ unfolding code.routine
 advance-spec 𝓤 H 𝓜 𝓖 𝓡 =
     met-over 𝓤 H 𝓜 𝓖 𝓡 f.signature (f.spec 𝓤 H (𝓖 .A) (𝓜 .mem) (𝓡 .run)) code.env key.name code.function (code.unfolded 𝓤 H 𝓜 𝓡) spelled
     (λ κs. (mut-tells (named 0) (κs .0) (B κs), tt))
-    core-def.name core-def.routine code.calls-range·steps·step-at core.signature (core.spec 𝓤 H (𝓖 .A) (𝓜 .mem) (𝓡 .run)) (core-thm.met 𝓤 H 𝓜 𝓖 𝓡)
+    core-def.name core-def.routine code.calls-ranging·step-at core.signature (core.spec 𝓤 H (𝓖 .A) (𝓜 .mem) (𝓡 .run)) (core-thm.met 𝓤 H 𝓜 𝓖 𝓡)
     (walk 𝓤 H (𝓖 .A) (givenOf 𝓤 H 𝓜 𝓖) (𝓜 .mem) (𝓡 .run))

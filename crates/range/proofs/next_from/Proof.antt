@@ -45,11 +45,11 @@ use Rattle.walks.proofs.Meeting.{asks-nothing, WalksOver, met-over}
 use Rattle.tree.proofs.walk.Place as P
 use Rattle.tree.proofs.walk.Place.Laws as P′
 use Rattle.range.specs.declared.RangeReader.{RangeReader}
-use Rattle.range.specs.declared.steps.Step.{Step}
+use Rattle.ranging.specs.declared.Step.{Step}
 use Rattle.range.proofs.RangeReader as R
 use Rattle.range.proofs.RangeReader.Laws as R′
-use Rattle.range.proofs.steps.Step as S
-use Rattle.range.proofs.steps.Step.Laws as S′
+use Rattle.ranging.proofs.Step as S
+use Rattle.ranging.proofs.Step.Laws as S′
 use Rattle.range.proofs.advance as advance
 use Rattle.range.proofs.advance.Symbol as advance-def
 use Rattle.range.proofs.advance.Met as advance-thm

@@ -1,4 +1,4 @@
--- `range::start` meets its contract: the pages and the key go to `steps::start_at`, and the reader is made of the pages and what comes back. What
+-- `range::start` meets its contract: the pages and the key go to `ranging::start_at`, and the reader is made of the pages and what comes back. What
 -- the lent slice owns is had twice: a `&` is Copy. Assumes nothing.
 use mathlib.Core.Path.{refl, ap}
 use mathlib.Core.List.{[], _∷_}
@@ -33,15 +33,15 @@ use denote.Triple.Spec.{tripleOf}
 use Rattle.walks.proofs.Meeting.{asks-nothing, WalksOver, met-over}
 use Rattle.tree.proofs.walk.Place as P
 use Rattle.tree.proofs.walk.Place.Laws as P′
-use Rattle.range.specs.declared.steps.Reached.{Reached}
+use Rattle.ranging.specs.declared.Reached.{Reached}
 use Rattle.range.specs.declared.RangeReader.{RangeReader}
 use Rattle.range.proofs.RangeReader as R
 use Rattle.range.proofs.RangeReader.Laws as R′
-use Rattle.range.proofs.steps.Reached as S
-use Rattle.range.proofs.steps.Reached.Laws as S′
-use Rattle.range.proofs.steps.start_at as core
-use Rattle.range.proofs.steps.start_at.Symbol as core-def
-use Rattle.range.proofs.steps.start_at.Met as core-thm
+use Rattle.ranging.proofs.Reached as S
+use Rattle.ranging.proofs.Reached.Laws as S′
+use Rattle.ranging.proofs.start_at as core
+use Rattle.ranging.proofs.start_at.Symbol as core-def
+use Rattle.ranging.proofs.start_at.Met as core-thm
 use Rattle.range.proofs.Held.{becomes, gives, says-so, none-said, releases}
 use Rattle.range.proofs.start as f
 use Rattle.range.proofs.start.Key as key
@@ -103,5 +103,5 @@ unfolding code.routine
 start-spec 𝓤 H 𝓜 𝓖 𝓡 =
     met-over 𝓤 H 𝓜 𝓖 𝓡 f.signature (f.spec 𝓤 H (𝓖 .A) (𝓜 .mem) (𝓡 .run)) code.env key.name code.function (code.unfolded 𝓤 H 𝓜 𝓡) spelled
     (λ κs. (shr-slice-tells (named 0) (κs .0) u8, (uint-tells w32, tt)))
-    core-def.name core-def.routine code.calls-range·steps·start-at core.signature (core.spec 𝓤 H (𝓖 .A) (𝓜 .mem) (𝓡 .run)) (core-thm.met 𝓤 H 𝓜 𝓖 𝓡)
+    core-def.name core-def.routine code.calls-ranging·start-at core.signature (core.spec 𝓤 H (𝓖 .A) (𝓜 .mem) (𝓡 .run)) (core-thm.met 𝓤 H 𝓜 𝓖 𝓡)
     (walk 𝓤 H (𝓖 .A) (givenOf 𝓤 H 𝓜 𝓖) (𝓜 .mem) (𝓡 .run))

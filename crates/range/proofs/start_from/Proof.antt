@@ -35,13 +35,13 @@ use Rattle.walks.proofs.Meeting.{asks-nothing, WalksOver, met-over}
 use Rattle.tree.specs.declared.walk.Place.{Place}
 use Rattle.tree.proofs.walk.Place as P
 use Rattle.tree.proofs.walk.Place.Laws as P′
-use Rattle.range.specs.Reading.{reached, startFrom}
-use Rattle.range.specs.declared.steps.Reached.{Reached}
+use Rattle.ranging.specs.Reading.{reached, startFrom}
+use Rattle.ranging.specs.declared.Reached.{Reached}
 use Rattle.range.specs.declared.RangeReader.{RangeReader}
 use Rattle.range.proofs.RangeReader as R
 use Rattle.range.proofs.RangeReader.Laws as R′
-use Rattle.range.proofs.steps.Reached as S
-use Rattle.range.proofs.steps.Reached.Laws as S′
+use Rattle.ranging.proofs.Reached as S
+use Rattle.ranging.proofs.Reached.Laws as S′
 use Rattle.range.proofs.start as start
 use Rattle.range.proofs.start.Symbol as start-def
 use Rattle.range.proofs.start.Met as start-thm

@@ -27,9 +27,9 @@ use Rattle.walks.proofs.Meeting.{ownsBeside, LastBeside, saysBeside, asks-nothi
 use Rattle.walks.proofs.Beside.{lentShared, number}
 use Rattle.store.proofs.known.Numbers as N
 use Rattle.store.proofs.known.Numbers.Laws as N′
-use Rattle.answering.proofs.find as core
-use Rattle.answering.proofs.find.Symbol as core-def
-use Rattle.answering.proofs.find.Met as core-thm
+use Rattle.finding.proofs.find as core
+use Rattle.finding.proofs.find.Symbol as core-def
+use Rattle.finding.proofs.find.Met as core-thm
 use Rattle.uhtlight.proofs.Outer.{outer-runs}
 use Rattle.uhtlight.proofs.OfFound.{ofFound}
 use Rattle.uhtlight.proofs.uhtlight_find as f
@@ -63,5 +63,5 @@ unfolding code.routine
 uhtlight-find-spec 𝓤 H 𝓜 𝓖 𝓡 =
     met-over 𝓤 H 𝓜 𝓖 𝓡 f.signature (f.spec 𝓤 H (𝓖 .A) (𝓜 .mem) (𝓡 .run)) code.env key.name code.function (code.unfolded 𝓤 H 𝓜 𝓡) spelled
     (λ κs. (mut-tells (named 0) (κs .0) N.the-row, (shr-slice-tells (named 1) (κs .1 .0) u8, (shr-slice-tells (named 2) (κs .1 .1 .0) u8, (uint-tells w32, tt)))))
-    core-def.name core-def.routine code.calls-answering·find core.signature (core.spec 𝓤 H (𝓖 .A) (𝓜 .mem) (𝓡 .run)) (core-thm.met 𝓤 H 𝓜 𝓖 𝓡)
+    core-def.name core-def.routine code.calls-finding·find core.signature (core.spec 𝓤 H (𝓖 .A) (𝓜 .mem) (𝓡 .run)) (core-thm.met 𝓤 H 𝓜 𝓖 𝓡)
     (walk 𝓤 H (𝓖 .A) (givenOf 𝓤 H 𝓜 𝓖) (𝓜 .mem) (𝓡 .run))

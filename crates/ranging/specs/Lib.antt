@@ -1,0 +1,2 @@
+-- The range reader's steps: where it starts, and what each step gives.
+pub mod Reading

@@ -1,0 +1,2 @@
+-- What the pages that a put or a delete changes must be.
+pub mod Saved

@@ -1,0 +1,3 @@
+-- Laws about a chosen unit, and about the answers.
+pub mod Starts
+pub mod Units

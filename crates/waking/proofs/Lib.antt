@@ -1,0 +1,2 @@
+-- Laws about the test of the pages' numbers.
+pub mod Newer

@@ -55,6 +55,7 @@ Suits sz Nothing = Unit {0}
 Suits sz Record = sz ≡ 16
 Suits sz (Entry key p) = sz ≡ 8
 
+-- the draft d can be drawn: its runs are rows of a page of w, and with a new row they fit a page
 pub record Ready (w : List ℕ) (d : Draft) : Type 0 where
   pub inside : d .page .0 < 64
   pub source : d .source .0 < 64

@@ -36,7 +36,7 @@ pub fn refused(reply: u8) -> Plan
     }
 }
 
-// The first n of four drafts.
+// The first n of four drafts; those behind them stand for nothing.
 pub fn listed(n: u8, a: Draft, b: Draft, c: Draft, d: Draft) -> Plan
     requires { ⌜ n ≤ 4 ⌝ }
     ensures { λ x. ⌜ ((w r : List ℕ) → Ready w a → Ready w b → Ready w c → Ready w d → Plans w r x (sheets (take n (sheetOf (pages w) r a ∷ sheetOf (pages w) r b ∷ sheetOf (pages w) r c ∷ sheetOf (pages w) r d ∷ [])))) ⌝ }

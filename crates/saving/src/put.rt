@@ -150,7 +150,7 @@ fn put_split(w: &[u8], x: Route) -> Plan
     plan::listed(3, base, high, low, low)
 }
 
-// A put where the root has entries.
+// A put where the root has entries: into the key's leaf, or by a split where that has 15 records beside the key's own.
 fn put_into(w: &[u8], x: Route) -> Plan
     requires { ⌜ InForm (now w) × Leads (now w) x ⌝ }
     ensures { λ y. ⌜ ((r : List ℕ) → x .key ≡ keyOf r → Plans (now (w .entry)) r y (putInto r (x .base .0) (x .leaf .0) (pages (now (w .entry))))) ⌝ }

@@ -1,7 +1,7 @@
 -- What the test of a begin record says of its numbers, so that each fits the bytes that it is written in. Assumes nothing.
 use Prim.Native.Nat.{ℕ, _≤_}
 use native.Mathlib.Omega.{arith}
-use mathlib.Core.Path.{_≡_, refl}
+use mathlib.Core.Path.{_≡_, refl, _∙_}
 use mathlib.Core.Bool.{Bool, true, false}
 use mathlib.Core.List.{List, [], _∷_}
 use lib.ListN.{length}
@@ -160,3 +160,11 @@ module _ (g : Begin) where
     pub begin-saving : saves g ≡ true → size (LB g) ≡ lengthOf begin 1
     unfolding size carried kindOf
     begin-saving h = rw (beginOk-saved, h) (unfold pick in refl)
+
+    -- none is carried
+    pub begin-none : saves g ≡ false → g .saved ≡ []
+    begin-none h = nil-of (g .saved) (beginOk-saved ∙ rw h (unfold pick in refl))
+      where
+        nil-of : (rs : List (List ℕ)) → length rs ≡ 0 → rs ≡ []
+        nil-of [] e = refl
+        nil-of (r ∷ rs) e = absurd (omega (arith, e))

@@ -1,6 +1,6 @@
 -- Laws of records that may come next, of chains of them, and of logs made of one. Assumes nothing.
 use Prim.Native.Nat.{ℕ, zero, suc, _+_, _≤_}
-use mathlib.Core.Path.{_≡_}
+use mathlib.Core.Path.{refl, _≡_}
 use mathlib.Core.Bool.{Bool, true, false}
 use mathlib.Core.List.{List, [], _∷_, _++_}
 use mathlib.Core.Option.{Option, some, none}
@@ -10,8 +10,8 @@ use Rattle.page.specs.Page.{ascendRecords}
 use Rattle.page.specs.Each.{Each, Long}
 use Rattle.log.specs.Record.{Check, Begin, saves, Image, Rec, LB, LO, LI, LM, LG, LE, kindOf, carried}
 use Rattle.log.specs.Plan.{Step, takeOut, bringIn, point, close}
-use Rattle.log.specs.Log.{Open, State, first, after, afterAll, Log}
-use Rattle.log.specs.Valid.{Moved, Does, does-out, does-in, does-point, does-close, Logs, logs-image, logs-end, Follows, begins, goes, logs, Fits, Valid, nil, cons, Small, Good}
+use Rattle.log.specs.Log.{Open, State, first, after, afterAll, allBear, Log}
+use Rattle.log.specs.Valid.{Moved, Does, does-out, does-in, does-point, does-close, Logs, logs-image, logs-end, Bears, Follows, begins, goes, logs, Fits, Valid, nil, cons, Small, Good}
 use Rattle.log.proofs.Record.{Sized, Narrow}
 use Rattle.log.proofs.State.{Every}
 use Rattle.log.proofs.Begin.{beginOk-narrow}
@@ -32,6 +32,14 @@ does-narrow (does-out m) = m .bytes
 does-narrow (does-in e) = tt
 does-narrow (does-point h) = tt
 does-narrow does-close = tt
+
+-- a record that does a step has no image, so that all of them bear its number
+pub does-bears : {did : List Rec} {x : Step} {r : Rec} (n : ℕ) → Does did x r → Bears n r
+unfolding allBear
+does-bears n (does-out m) = tt
+does-bears n (does-in e) = tt
+does-bears n (does-point h) = tt
+does-bears n does-close = refl
 
 -- a record that may come next has rows of 16 bytes
 pub follows-sized : {u : ℕ} {o : Option Open} {r : Rec} → Follows u o r → Sized r

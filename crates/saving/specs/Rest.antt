@@ -48,9 +48,13 @@ unfoldable pub saving : (g : Begin) (n : ℕ) (is : List Image) → Changed → 
 saving g n is (cannot reply) = refuses reply
 saving g n is (sheets xs) = let end : ℕ = n + length xs + 1 in imaging (g .unit) end is (map (imageOf end) xs)
 
--- "an open unit is worked out anew": tests 3 on all work pages, 8, 18 or 15, and 5 for a logged image that differs
-unfoldable pub restOf : (g : Begin) (n : ℕ) (did : List Rec) → (w : List ℕ) → Rest
-restOf g n did w =
+-- "an open unit is worked out anew": tests 3 on all work pages, 8, 18 or 15, and 5 for a logged image that differs; its LB has the number n
+unfoldable pub resumed : (g : Begin) (n : ℕ) (is : List Image) → (w : List ℕ) → Rest
+resumed g n is w =
     need (allFormed 0 (pages w)) (refuses 3)
     (need (wellFormed (pages w)) (refuses 8)
-    (saving g n (imagesOf did []) (sheetsOf g (pages w))))
+    (saving g n is (sheetsOf g (pages w))))
+
+-- the same, given the unit's records since its LB, the latest first
+abbrev pub restOf : (g : Begin) (n : ℕ) (did : List Rec) → (w : List ℕ) → Rest
+restOf g n did w = resumed g n (imagesOf did []) w

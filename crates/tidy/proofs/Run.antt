@@ -7,7 +7,7 @@ use mathlib.Core.Option.{none, some}
 use lib.ListN.{length}
 use Rattle.field.specs.Test.{pick}
 use Rattle.page.specs.Page.{keyOf}
-use Rattle.log.specs.Record.{Rec, LO, LI, LM, LE, carried}
+use Rattle.log.specs.Record.{Rec, LO, LI, LM, LE, carried, outs}
 use Rattle.log.specs.Plan.{Step, takeOut, bringIn, point, close}
 use Rattle.log.specs.Log.{taken}
 use Rattle.unit.specs.Next.{skipped}
@@ -52,7 +52,7 @@ close-on u s did = (LE u [] ∷ [], closes done)
 pub pair-on : (p d : ℕ) (xs : List Step) (l : ℕ → List (List ℕ)) (b : ℕ → List Entry) (s′ : State) (v : List (List ℕ)) → 1 ≤ full (l p)
     → upd l p [] d ++ l p ≡ v → length v ≤ 15 → Ascends 0 (map keyOf v) → Always xs (state (upd (upd l p []) d v) b) s′
     → Always (takeOut p d ∷ bringIn p d 1 ∷ xs) (state l b) s′
-unfolding taken carried
+unfolding taken carried outs
 pair-on p d xs l b s′ v f e h a k did =
     let did′ : List Rec = LI p d 1 (l p) ∷ LO p d (l p) ∷ did in
     let k′ : Always xs (state (upd (upd l p []) d (upd l p [] d ++ l p)) b) s′ = subst (λ (x : List (List ℕ)). Always xs (state (upd (upd l p []) d x) b) s′) (sym e) k in

@@ -9,7 +9,7 @@ use borrow.Author.Tests.{eq-eqb, ne-eqb}
 use lib.Dec.{eqb}
 use lib.ListN.{length}
 use Rattle.field.specs.Test.{pick}
-use Rattle.log.specs.Record.{Rec, LO, LI, LM, LE, carried}
+use Rattle.log.specs.Record.{Rec, LO, LI, LM, LE, carried, outs}
 use Rattle.log.specs.Plan.{Step, swapPlan, close}
 use Rattle.log.specs.Log.{taken}
 use Rattle.unit.specs.Next.{skipped, keyBefore}
@@ -228,7 +228,7 @@ module _ (root : List Entry) (s : State) (t : Tree root s) (x y : Entry) (p q : 
 
   -- the six steps, then LE
   swapped : (u : ℕ) → 1 ≤ a → 1 ≤ b → Always (swapPlan p q a b ++ (close u ∷ [])) s end
-  unfolding swapPlan taken carried keyBefore skipped pick
+  unfolding swapPlan taken carried outs keyBefore skipped pick
   swapped u ha hb did =
       let fa : 1 ≤ full (leaf a) = x-full root s t x p xs ys x-in in
       let fb : 1 ≤ full (leaf b) = x-full root s t y q us vs y-in in

@@ -15,7 +15,7 @@ use Rattle.page.specs.Pages.{pages}
 use Rattle.page.proofs.Made.{number-made}
 use Rattle.log.specs.Record.{Begin, Image, Rec, LE}
 use Rattle.log.specs.Log.{imagesOf}
-use Rattle.saving.specs.Rest.{imageOf, sheetsOf, refuses, lacks, begins, logging, imaging, saving, restOf}
+use Rattle.saving.specs.Rest.{imageOf, sheetsOf, refuses, lacks, begins, logging, imaging, saving, resumed, restOf}
 use Rattle.saving.specs.Save.{Sheet, drawn, Changed}
 use Rattle.tidy.specs.Tidy.{Tidy}
 use Rattle.saved.specs.Units.{SaveResumes}
@@ -52,7 +52,7 @@ imaging-on u n is ks b =
 
 -- tests 3 on all pages and 8 pass on tidy pages
 rest-is : (g : Begin) (n : ℕ) (did : List Rec) (w : List ℕ) → Tidy w → restOf g n did w ≡ saving g n (imagesOf did []) (sheetsOf g (pages w))
-unfolding restOf
+unfolding resumed
 rest-is g n did w t = rw (need-true _ (refuses 3) _ (t .form), need-true _ (refuses 8) _ (t .tree))
 
 pub save-resumes : SaveResumes

@@ -12,7 +12,7 @@ ghost use Rattle.unit.specs.Made.{ended};
 ghost use Rattle.saving.specs.Draft.{sheetOf, Ready, draftAt};
 ghost use Rattle.saving.specs.Rest.{imageOf};
 ghost use Rattle.resuming.specs.Lacking.{Unfinished, recordOn, lastNumber};
-ghost use Rattle.resuming.specs.Carried.{outcome, carriedOn, tested};
+ghost use Rattle.resuming.specs.Concluded.{outcome, concludedOn, tested};
 use crate::lacking;
 use field::LogNo;
 use log::kind;
@@ -42,7 +42,7 @@ fn append_image(work: &[u8], log: &mut [u8], w: Walk, d: Draft, k: u8)
     requires { ⌜ (length (now work) ≡ 16384) × Unfinished (now log) w × Ready (now work) d × (w .at + lengthOf image 1 ≤ length (now log)) × (w .number .0 < 4294967295) × (lastNumber w k ≤ 4294967295) ⌝ }
     ensures { λ _. ⌜ now (log .exit) ≡ put (w .at) (encode (w .number .0 + 1) (LG (imageOf (lastNumber w k) (sheetOf (pages (now (work .entry))) (recordOn (now (log .entry)) w) d)))) (now (log .entry)) ⌝ }
 {
-    let at = w.begin + kind::size_of(kind::LB, 0);
+    let at = w.begin + kind::LB_LONG;
     let end = w.number.0 as usize - w.done + k as usize + 1;
     let page = draw::draw(work, &log[at..at + 16], d, LogNo(end as u32));
     writing::put_image(log, w.at, LogNo(w.number.0 + 1), d.page, &page);
@@ -55,7 +55,7 @@ fn append_end(work: &mut [u8], log: &mut [u8], w: Walk)
         × (now (log .exit) ≡ put (w .at) (encode (w .number .0 + 1) (LE (w .unit .0) (imagesOn (now (log .entry)) w))) (now (log .entry))) ⌝ }
 {
     let n = LogNo(w.number.0 + 1);
-    let from = w.begin + kind::size_of(kind::LB, 1);
+    let from = w.begin + kind::LB_LONG + 16;
     apply::end_all(work, &log[from..], w.done, n);
     writing::put_end(log, w.at, n, w.unit);
 }
@@ -63,7 +63,7 @@ fn append_end(work: &mut [u8], log: &mut [u8], w: Walk)
 // The first record lacked.
 pub fn append_saved(work: &mut [u8], log: &mut [u8], w: Walk) -> u8
     requires { ⌜ (length (now work) ≡ 16384) × (length (now log) ≡ 8192) × Unfinished (now log) w ⌝ }
-    ensures { λ r. ⌜ outcome r (now (work .exit)) (now (log .exit)) ≡ carriedOn w (now (work .entry)) (now (log .entry)) ⌝ }
+    ensures { λ r. ⌜ outcome r (now (work .exit)) (now (log .exit)) ≡ concludedOn w (now (work .entry)) (now (log .entry)) ⌝ }
 {
     let x = lacking::lacked(work, log, w);
     if x.reply != 0 {

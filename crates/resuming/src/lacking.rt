@@ -10,8 +10,8 @@ ghost use Rattle.field.specs.Bytes.{part, same, le2};
 ghost use Rattle.page.specs.Pages.{pages};
 ghost use Rattle.log.specs.Record.{image, lengthOf};
 ghost use Rattle.log.specs.Scan.{imagesIn, imagesOn};
-ghost use Rattle.saving.specs.Save.{drawn};
-ghost use Rattle.saving.specs.Draft.{sheetOf, Ready, planned, Plans};
+ghost use Rattle.saving.specs.Save.{sheets, drawn};
+ghost use Rattle.saving.specs.Draft.{sheetOf, Ready, Plans};
 ghost use Rattle.saving.specs.Rest.{imageOf, begins};
 ghost use Rattle.resuming.specs.Lacking.{drafted, Unfinished, recordOn, lastNumber, lacked};
 use crate::working;
@@ -33,17 +33,15 @@ fn same_image(work: &[u8], r: &[u8], d: Draft, n: LogNo, m: &[u8]) -> bool
         return false;
     }
     let page = draw::draw(work, r, d, n);
-    let from = kind::size_of(kind::LG, 0);
-    field::same_bytes(&m[from..from + 256], &page)
+    field::same_bytes(&m[kind::LG_LONG..kind::LG_LONG + 256], &page)
 }
 
 // Whether the images of k LGs that stand one behind the other at the front of m are the first pages that the plan x lists, with this number.
 fn same_images(work: &[u8], r: &[u8], x: Plan, n: LogNo, m: &[u8], k: u8) -> bool
-    requires { ⌜ (length (now work) ≡ 16384) × (length (now r) ≡ 16) × Plans (now work) (now r) x (planned (pages (now work)) (now r) x) ⌝ }
+    requires { ⌜ (length (now work) ≡ 16384) × (length (now r) ≡ 16) × Plans (now work) (now r) x (sheets (drafted (pages (now work)) (now r) x)) ⌝ }
     requires { ⌜ (k ≤ x .count) × (lengthOf image 1 * k ≤ length (now m)) ⌝ }
     ensures { λ z. ⌜ z ≡ begins (n .0) (imagesIn k (now (m .entry))) (map (imageOf (n .0)) (drafted (pages (now (work .entry))) (now (r .entry)) x)) ⌝ }
 {
-    let long = kind::size_of(kind::LG, 1);
     let mut at: usize = 0;
     let mut i: u8 = 0;
     while i < k {
@@ -51,7 +49,7 @@ fn same_images(work: &[u8], r: &[u8], x: Plan, n: LogNo, m: &[u8], k: u8) -> boo
         if !same_image(work, r, d, n, &m[at..]) {
             return false;
         }
-        at += long;
+        at += kind::LG_LONG + 256;
         i += 1;
     }
     true
@@ -59,7 +57,7 @@ fn same_images(work: &[u8], r: &[u8], x: Plan, n: LogNo, m: &[u8], k: u8) -> boo
 
 // Whether the images logged are the first pages that the plan x lists, with LE's number. Where no four bytes can bear that, they are not.
 fn agrees(work: &[u8], log: &[u8], w: Walk, x: Plan) -> bool
-    requires { ⌜ (length (now work) ≡ 16384) × Unfinished (now log) w × Plans (now work) (recordOn (now log) w) x (planned (pages (now work)) (recordOn (now log) w) x) ⌝ }
+    requires { ⌜ (length (now work) ≡ 16384) × Unfinished (now log) w × Plans (now work) (recordOn (now log) w) x (sheets (drafted (pages (now work)) (recordOn (now log) w) x)) ⌝ }
     ensures { λ z. ⌜ z ≡ begins (lastNumber w (x .count)) (imagesOn (now (log .entry)) w) (map (imageOf (lastNumber w (x .count))) (drafted (pages (now (work .entry))) (recordOn (now (log .entry)) w) x)) ⌝ }
 {
     if w.done == 0 {
@@ -72,7 +70,7 @@ fn agrees(work: &[u8], log: &[u8], w: Walk, x: Plan) -> bool
     if 4294967295 < end {
         return false;
     }
-    let at = w.begin + kind::size_of(kind::LB, 0);
+    let at = w.begin + kind::LB_LONG;
     let from = at + 16;
     same_images(work, &log[at..at + 16], x, LogNo(end as u32), &log[from..], w.done as u8)
 }
@@ -82,7 +80,7 @@ pub fn lacked(work: &[u8], log: &[u8], w: Walk) -> Plan
     requires { ⌜ (length (now work) ≡ 16384) × Unfinished (now log) w ⌝ }
     ensures { λ x. ⌜ Plans (now (work .entry)) (recordOn (now (log .entry)) w) x (lacked (now (log .entry)) w (now (work .entry))) ⌝ }
 {
-    let at = w.begin + kind::size_of(kind::LB, 0);
+    let at = w.begin + kind::LB_LONG;
     let x = working::worked(work, &log[at..at + 16], log[w.begin + opening::TYPE_AT]);
     if x.reply != 0 {
         return x;

@@ -1,6 +1,6 @@
 -- An open put or delete carried on by one record: the reply, or the first of the records that it lacks, appended with its page changes.
 -- Assumes nothing.
-use Prim.Native.Nat.{ℕ, _+_}
+use Prim.Native.Nat.{ℕ, _+_, _*_}
 use mathlib.Core.List.{List, [], _∷_}
 use lib.ListN.{length, drop}
 use lib.Dec.{leb}
@@ -29,9 +29,9 @@ firstOf at n [] v l = outcome 0 v l
 firstOf at n (r ∷ rs) v l = given (apply (n + 1) r v) (outcome 5 v l) (λ v′. outcome 0 v′ (put at (encode (n + 1) r) l))
 
 -- tests 6 and 7 for all that is lacked, then its first record
-unfoldable pub carried : (at n : ℕ) → Rest → (v l : List ℕ) → Outcome
-carried at n (refuses reply) v l = outcome reply v l
-carried at n (lacks rs) v l =
+unfoldable pub concluded : (at n : ℕ) → Rest → (v l : List ℕ) → Outcome
+concluded at n (refuses reply) v l = outcome reply v l
+concluded at n (lacks rs) v l =
     need (leb (at + sizes rs) 8192) (outcome 6 v l)
     (need (leb (n + length rs) most4) (outcome 7 v l)
     (firstOf at n rs v l))
@@ -41,8 +41,8 @@ unfoldable pub restOn : (l : List ℕ) → Walk → (v : List ℕ) → Rest
 restOn l w v = resumed (readBegin (w .unit .0) (drop (w .begin) l)) (firstNumber w) (imagesOn l w) v
 
 -- it carried on
-unfoldable pub carriedOn : Walk → (v l : List ℕ) → Outcome
-carriedOn w v l = carried (w .at) (w .number .0) (restOn l w v) v l
+unfoldable pub concludedOn : Walk → (v l : List ℕ) → Outcome
+concludedOn w v l = concluded (w .at) (w .number .0) (restOn l w v) v l
 
 -- tests 6 and 7 where k LGs and the LE are lacked: the reply, 0 where both hold
 unfoldable pub tested : (at n k : ℕ) → ℕ

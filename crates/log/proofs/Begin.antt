@@ -1,15 +1,15 @@
 -- What the test of a begin record says of its numbers, so that each fits the bytes that it is written in. Assumes nothing.
 use Prim.Native.Nat.{ℕ, _≤_}
 use native.Mathlib.Omega.{arith}
-use mathlib.Core.Path.{_≡_, refl, _∙_}
+use mathlib.Core.Path.{_≡_, refl, sym, _∙_}
 use mathlib.Core.Bool.{Bool, true, false}
 use mathlib.Core.List.{List, [], _∷_}
 use lib.ListN.{length}
 use lib.Dec.{eqb, leb}
-use borrow.Author.Tests.{eqb-true, leb-true}
+use borrow.Author.Tests.{eqb-true, ne-eqb, leb-true}
 use Rattle.field.specs.Test.{both, pick}
 use Rattle.field.specs.Bytes.{Bytes, most4}
-use Rattle.field.proofs.Test.{both-1, both-2, all-head, all-tail}
+use Rattle.field.proofs.Test.{both-1, both-2, all-head, all-tail, pick-true, pick-false}
 use Rattle.page.specs.Page.{firstLeaf, lastLeaf, ascendRecords}
 use Rattle.page.specs.Each.{Each}
 use Rattle.log.specs.Record.{Begin, saves, begin, lengthOf, LB, kindOf, carried, size}
@@ -119,6 +119,10 @@ module _ (g : Begin) where
       (λ t a. save-limits a)
       (λ m. move-limits (eqb-true (g .type) 3 (both-1 (eqb (g .type) 3) (moveOk g) m)) (both-2 (eqb (g .type) 3) (moveOk g) m))))
 
+  saves-type : saves g ≡ true → 4 ≤ g .type
+  unfolding saves
+  saves-type h = leb-true 4 (g .type) h
+
   -- what the test says of a begin record
   module _ (ok : beginOk g ≡ true) where
     -- its unit number fits four bytes
@@ -160,6 +164,18 @@ module _ (g : Begin) where
     pub begin-saving : saves g ≡ true → size (LB g) ≡ lengthOf begin 1
     unfolding size carried kindOf
     begin-saving h = rw (beginOk-saved, h) (unfold pick in refl)
+
+    -- the record that a put or delete carries
+    pub begin-carries : saves g ≡ true → carriesOk (g .type) (g .saved) ≡ true
+    unfolding beginOk typeOk saveOk
+    begin-carries h =
+        let high : 4 ≤ g .type = saves-type h in
+        let save : saveOk g ≡ true =
+        sym
+        (pick-false (eqb (g .type) 1) _ _ (ne-eqb (g .type) 1 (λ e. omega (arith, e, high)))
+        ∙ pick-false (eqb (g .type) 2) _ _ (ne-eqb (g .type) 2 (λ e. omega (arith, e, high))) ∙ pick-true (saves g) _ _ h)
+        ∙ all-head _ _ (all-tail _ _ ok) in
+        all-head _ _ (all-tail _ _ (all-tail _ _ (all-tail _ _ (all-tail _ _ (all-tail _ _ save)))))
 
     -- none is carried
     pub begin-none : saves g ≡ false → g .saved ≡ []

@@ -14,7 +14,7 @@ use Rattle.field.specs.Bytes.{Bytes, most4}
 use Rattle.field.proofs.Test.{pick-false}
 use Rattle.field.proofs.Number.{le4-small}
 use Rattle.page.specs.Page.{keyOf}
-use Rattle.page.specs.Each.{Each}
+use Rattle.page.specs.Each.{Each, Long}
 use Rattle.log.specs.Record.{Check, Begin, saves, Image, Rec, LB, LO, LI, LM, LG, LE, outs}
 use Rattle.log.specs.Plan.{Step, takeOut, bringIn, close, plan}
 use Rattle.log.specs.Log.{Open, State, first, largest, largestMoved, lkEnded, going, noting, openedBy, lkBy, unitBy, after, afterAll, beginOk, taken, imagesOf, follows, Log, atEnd}
@@ -86,6 +86,8 @@ pub record Keeps (u : ℕ) (o : Open) : Type 0 where
   pub start : o .start .unit ≡ u
   pub ok : beginOk (o .start) ≡ true
   pub saves : saves (o .start) ≡ true
+  pub whole : Each (Long 16) (o .start .saved)
+  pub bytes : Each Bytes (o .start .saved)
   pub images : Imaged (o .did)
   pub filed : Filed 0 (imagesOf (o .did) [])
   pub todo : o .todo ≡ close u ∷ []
@@ -181,21 +183,21 @@ waits-going {u} {o} {x} {xs} w e d a =
     }
 
 -- a unit that has just begun
-waits-begun : (g : Begin) → beginOk g ≡ true → (t : Bool) → saves g ≡ t → Waits (g .unit) (some (record { start = g; did = []; todo = plan g }))
-waits-begun g ok true v = open-save (record { start = refl; ok = ok; saves = v; images = no-image; filed = unfold imagesOf in tt; todo = plan-saves g v })
-waits-begun g ok false v =
+waits-begun : (g : Begin) → beginOk g ≡ true → Each (Long 16) (g .saved) → Each Bytes (g .saved) → (t : Bool) → saves g ≡ t → Waits (g .unit) (some (record { start = g; did = []; todo = plan g }))
+waits-begun g ok l b true v = open-save (record { start = refl; ok = ok; saves = v; whole = l; bytes = b; images = no-image; filed = unfold imagesOf in tt; todo = plan-saves g v })
+waits-begun g ok l b false v =
     open-unit (record { start = refl; ok = ok; plain = v; past = []; done = nil; whole = refl; fed = plan-fed g; todo = plan-ending g })
 
 -- an open put or delete after an LG
 waits-noting : {u : ℕ} {o : Open} (i : Image) → follows (imagesOf (o .did) []) i ≡ true → length (i .bytes) ≡ 256 → Bytes (i .bytes) → Keeps u o → Keeps u (noting (LG i) o)
 unfolding noting imagesOf
 waits-noting {o = o} i f l b k =
-    record { start = k .start; ok = k .ok; saves = k .saves; images = an-image (k .images); filed = image-filed (o .did) i f l b (k .filed); todo = k .todo }
+    record { start = k .start; ok = k .ok; saves = k .saves; whole = k .whole; bytes = k .bytes; images = an-image (k .images); filed = image-filed (o .did) i f l b (k .filed); todo = k .todo }
 
 -- the unit that is open after a record
 waits-after : {u : ℕ} {o : Option Open} {r : Rec} → Follows u o r → Waits u o → Waits (unitBy r u) (openedBy r o)
 unfolding unitBy openedBy bind
-waits-after (begins {g = g} e ok l b) w = waits-begun g ok (saves g) refl
+waits-after (begins {g = g} e ok l b) w = waits-begun g ok l b (saves g) refl
 waits-after (goes v e (does-out m)) w = open-unit (waits-going works-out e (does-out m) (waits-open w v))
 waits-after (goes v e (does-in q)) w = open-unit (waits-going works-in e (does-in q) (waits-open w v))
 waits-after (goes v e (does-point h)) w = open-unit (waits-going works-point e (does-point h) (waits-open w v))

@@ -1,11 +1,11 @@
--- `forward::appending::append` meets its contract. Assumes nothing.
+-- `forward::appending::append_step` meets its contract. Assumes nothing.
 use native.Mathlib.Omega.{arith}
 use lib.ListN.{length-drop}
 use borrow.Rule.Slice.PartAt.{part-to-end}
 use Rattle.forward.proofs.Stands.{Stands, stands, begin-room, begin-ok, next-out, next-in, next-point, next-close}
 use borrow.Author.Needs.{needs}
-use Rattle.forward.proofs.appending.append.Statement.{statement}
-use Rattle.forward.proofs.appending.append.Tie as tie
+use Rattle.forward.proofs.appending.append_step.Statement.{statement}
+use Rattle.forward.proofs.appending.append_step.Tie as tie
 
 -- the log at whose end a unit is open
 unit-open : (c : tie.After-slice-known2) → Stands (c .before .before .args .log .now) (c .before .before .args .w)
@@ -23,7 +23,7 @@ part-step-at-end c = search needs
 step-at-requires : tie.Need-step-at-requires
 step-at-requires c κs =
     let s = unit-open (c .before .before) in
-    (rw (part-to-end, length-drop) (omega (arith, begin-room s)), rw part-to-end (begin-ok s))
+    (rw (part-to-end, length-drop) (omega (arith, begin-room s)), rw part-to-end (begin-ok s), rw part-to-end (c .before .before .before .before .pre .2 .plain))
 
 enum-known-x : tie.Need-enum-known-x
 enum-known-x c = search needs
@@ -101,8 +101,8 @@ same-length-8 c = search needs
 returns-4 : tie.Need-returns-4
 returns-4 c = search needs
 
-pub append-spec : {M : Type 1} → statement M
-append-spec =
+pub append-step-spec : {M : Type 1} → statement M
+append-step-spec =
     tie.close
     (tie.spec
     sub-step-at

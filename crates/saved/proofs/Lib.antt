@@ -20,3 +20,4 @@ pub mod Changed
 pub mod Ended
 pub mod Resumed
 pub mod Entered
+pub mod Lacking

@@ -3,7 +3,7 @@ use Prim.Native.Nat.{ℕ, _+_, _-_, _*_, _≤_, _<_}
 use native.Mathlib.Omega.{arith}
 use mathlib.Core.Path.{_≡_, refl, sym, ap, _∙_}
 use mathlib.Core.Bool.{Bool, true, false, not, false≢true}
-use mathlib.Core.List.{List, _∷_}
+use mathlib.Core.List.{List, [], _∷_}
 use mathlib.Core.Option.{Option, some, none}
 use lib.ListN.{length, take, drop}
 use lib.Dec.{leb}
@@ -28,7 +28,7 @@ use Rattle.log.specs.declared.scan.Walk.{Walk}
 use Rattle.log.proofs.Puts.{encode-in}
 use Rattle.log.proofs.Laid.{Sourced}
 use Rattle.log.proofs.Toward.{toward-source}
-use Rattle.unit.specs.Next.{targets, apply, targetOf, pageOf, lowestTo, skipped, nextRec, stepSize, room}
+use Rattle.unit.specs.Next.{targets, apply, targetOf, pageOf, lowestTo, skipped, nextRec, stepSize, room, placesOf}
 use Rattle.unit.specs.Made.{keyIn, Did}
 use Rattle.unit.specs.declared.entry.Lowest.{Lowest}
 use Rattle.unit.specs.declared.entry.Lowest.the-variants.{Nothing, Key}
@@ -366,7 +366,7 @@ module _ (work : List ℕ) {l : List ℕ} {w : Walk} (s : Stands l w) (unit : �
   close-record = refl
 
   close-made : apply (w .number .0 + 1) (LE unit []) work ≡ some work
-  unfolding targets
+  unfolding targets placesOf
   close-made = apply-stays (w .number .0 + 1) (LE unit []) work refl
 
   module _ (t : ℕ) (g : t ≡ tested (w .at + room work (toCome l w)) (w .number .0 + 1)) where

@@ -2,3 +2,5 @@
 pub mod Stands
 pub mod Appends
 pub mod Grows
+pub mod Saves
+pub mod Finish

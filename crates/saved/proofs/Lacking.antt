@@ -114,7 +114,7 @@ module _ (g : Begin) (ok : beginOk g ≡ true) (v : saves g ≡ true) (l : Each 
 
 -- ---- the first record lacked
 
-first-logs : (u n m : ℕ) (is ks : List Image) (r : Rec) (rs : List Rec) → Enters u m (is ++ ks) → (ks ≡ [] → m ≡ n) → logging ks ++ (LE u (is ++ ks) ∷ []) ≡ r ∷ rs
+pub first-logs : (u n m : ℕ) (is ks : List Image) (r : Rec) (rs : List Rec) → Enters u m (is ++ ks) → (ks ≡ [] → m ≡ n) → logging ks ++ (LE u (is ++ ks) ∷ []) ≡ r ∷ rs
     → Logs u is r × Bears n r
 unfolding logging
 first-logs u n m is [] r rs h f e =

@@ -24,38 +24,43 @@ use Rattle.forward.proofs.Grows.{stopped-not, Gave, given-went, need-we
 
 -- ---- what the tests have shown
 
-pub record Concluded (rest : Rest) (s : State) (w l : List ℕ) (s′ : State) (w′ l′ : List ℕ) : Type 0 where
-  pub added : Rec
-  pub others : List Rec
-  pub lacked : rest ≡ lacks (added ∷ others)
-  pub fits : s .at + (size added + sizes others) ≤ logLength
-  pub numbered : s .number + suc (length others) ≤ most4
-  pub applied : apply (s .number + 1) added w ≡ some w′
-  pub state : s′ ≡ after s added
-  pub written : l′ ≡ put (s .at) (encode (s .number + 1) added) l
+-- the first of the records r, rs was appended, after the tests for all of them
+pub record First (r : Rec) (rs : List Rec) (s : State) (w l : List ℕ) (s′ : State) (w′ l′ : List ℕ) : Type 0 where
+  pub fits : s .at + (size r + sizes rs) ≤ logLength
+  pub numbered : s .number + suc (length rs) ≤ most4
+  pub applied : apply (s .number + 1) r w ≡ some w′
+  pub state : s′ ≡ after s r
+  pub written : l′ ≡ put (s .at) (encode (s .number + 1) r) l
 
--- something is lacked
-abbrev Lacks : Rest → Type 0
-Lacks rest = (rs : List Rec) → rest ≡ lacks rs → 1 ≤ length rs
-
-by-rest : (rest : Rest) → Lacks rest → (s : State) (w l : List ℕ) (s′ : State) (w′ l′ : List ℕ) → conclude 1 rest s w l ≡ went s′ w′ l′ → Concluded rest s w l s′ w′ l′
+pub first-concluded : (r : Rec) (rs : List Rec) (s : State) (w l : List ℕ) (s′ : State) (w′ l′ : List ℕ) → conclude 1 (lacks (r ∷ rs)) s w l ≡ went s′ w′ l′
+    → First r rs s w l s′ w′ l′
 unfolding conclude appendAll andThen sizes
-by-rest (refuses r) f s w l s′ w′ l′ e = absurd (stopped-not r s′ w′ l′ e)
-by-rest (lacks []) f s w l s′ w′ l′ e = absurd (omega (arith, f [] refl))
-by-rest (lacks (r ∷ rs)) f s w l s′ w′ l′ e =
+first-concluded r rs s w l s′ w′ l′ e =
     let a = need-went _ 6 _ s′ w′ l′ e in
     let b = need-went _ 7 _ s′ w′ l′ (a .1) in
     let c = given-went (apply (s .number + 1) r w) 5 _ s′ w′ l′ (b .1) in
     record {
-      added = r;
-      others = rs;
-      lacked = refl;
       fits = leb-true _ logLength (a .0);
       numbered = leb-true _ most4 (b .0);
       applied = c .was ∙ ap some (went-work _ s′ (c .from) w′ _ l′ (c .gives));
       state = went-state _ s′ (c .from) w′ _ l′ (c .gives);
       written = went-log _ s′ (c .from) w′ _ l′ (c .gives);
     }
+
+-- where something is lacked, there is a first record
+pub record Concluded (rest : Rest) (s : State) (w l : List ℕ) (s′ : State) (w′ l′ : List ℕ) : Type 0 where
+  pub added : Rec
+  pub others : List Rec
+  pub lacked : rest ≡ lacks (added ∷ others)
+  pub first : First added others s w l s′ w′ l′
+
+abbrev Lacks : Rest → Type 0
+Lacks rest = (rs : List Rec) → rest ≡ lacks rs → 1 ≤ length rs
+
+by-rest : (rest : Rest) → Lacks rest → (s : State) (w l : List ℕ) (s′ : State) (w′ l′ : List ℕ) → conclude 1 rest s w l ≡ went s′ w′ l′ → Concluded rest s w l s′ w′ l′
+by-rest (refuses r) f s w l s′ w′ l′ e = absurd (stopped-not r s′ w′ l′ (unfold conclude in e))
+by-rest (lacks []) f s w l s′ w′ l′ e = absurd (omega (arith, f [] refl))
+by-rest (lacks (r ∷ rs)) f s w l s′ w′ l′ e = record { added = r; others = rs; lacked = refl; first = first-concluded r rs s w l s′ w′ l′ e }
 
 -- ---- the record may come next
 
@@ -87,17 +92,19 @@ module _ (g : Log) (o : Open) (w l : List ℕ) (whole : length w ≡ 16384) (bw 
   abbrev done : List Image
   done = imagesOf (o .did) []
 
-  lacks-some : Lacks (lackedBy o (atEnd g) w)
+  pub save-lacks : (rs : List Rec) → lackedBy o (atEnd g) w ≡ lacks rs → Lacked (o .start) first done w rs
   unfolding lackedBy
+  save-lacks rs e = lacked (o .start) first done w rs whole bw e
+
+  pub lacks-some : (rs : List Rec) → lackedBy o (atEnd g) w ≡ lacks rs → 1 ≤ length rs
   lacks-some rs e =
-      let k : Lacked (o .start) first done w rs = lacked (o .start) first done w rs whole bw e in
+      let k : Lacked (o .start) first done w rs = save-lacks rs e in
       rw (k .recs) (logging-some (o .start .unit) (k .others) (done ++ k .others))
 
   module _ (few : length (o .did) ≤ atEnd g .number) (r : Rec) (rs : List Rec) (e : lackedBy o (atEnd g) w ≡ lacks (r ∷ rs))
       (h : atEnd g .number + suc (length rs) ≤ most4) where
     all : Lacked (o .start) first done w (r ∷ rs)
-    unfolding lackedBy
-    all = lacked (o .start) first done w (r ∷ rs) whole bw e
+    all = save-lacks (r ∷ rs) e
 
     -- LE's number
     abbrev last : ℕ
@@ -134,7 +141,8 @@ module _ (g : Log) (o : Open) (w l : List ℕ) (whole : length w ≡ 16384) (bw 
   pub conclude-grows : length l ≡ 8192 → length (o .did) ≤ atEnd g .number → (s′ : State) (w′ l′ : List ℕ)
       → (c : Concluded (lackedBy o (atEnd g) w) (atEnd g) w l s′ w′ l′) → Grown g (c .added) w l s′ w′ l′
   conclude-grows n few s′ w′ l′ c =
-      grows g (c .added) w l s′ w′ l′ n bw bl read (save-fits few (c .added) (c .others) (c .lacked) (c .numbered)) (c .applied) (omega (arith, c .fits)) (c .state) (c .written)
+      grows g (c .added) w l s′ w′ l′ n bw bl read (save-fits few (c .added) (c .others) (c .lacked) (c .first .numbered)) (c .first .applied)
+      (omega (arith, c .first .fits)) (c .first .state) (c .first .written)
 
   pub conclude-went : (s′ : State) (w′ l′ : List ℕ) → conclude 1 (lackedBy o (atEnd g) w) (atEnd g) w l ≡ went s′ w′ l′
       → Concluded (lackedBy o (atEnd g) w) (atEnd g) w l s′ w′ l′

@@ -243,8 +243,9 @@ module _ (l : List ℕ) (w : Walk) where
 
     pub agree-few! : x .count < w .done → Plans v (recordOn l w) x (sheets (drafted (pages v) (recordOn l w) x)) → false ≡ agree
     agree-few! h p =
-        let js : List Image = map (imageOf (lastNumber w (x .count))) (drafted (pages v) (recordOn l w) x) in
-        let c : length js ≡ x .count = length-mapped _ _ ∙ length-drafted v (recordOn l w) x _ p in
+        let xs : List Sheet = drafted (pages v) (recordOn l w) x in
+        let js : List Image = map (imageOf (lastNumber w (x .count))) xs in
+        let c : length js ≡ x .count = length-mapped (imageOf (lastNumber w (x .count))) xs ∙ length-drafted v (recordOn l w) x _ p in
         let k : length js < length (imagesOn l w) = omega (arith, c, many-images) in
         sym (begins-long (lastNumber w (x .count)) (imagesOn l w) js k)
 

@@ -165,14 +165,13 @@ module _ (g : Begin) (n t : ℕ) (r w : List ℕ) (x : Plan) (p : Plans w r x (w
   pub needs-of : Needs (resumed g n [] w) (x .reply) (x .count)
   unfolding lacking lengthOf
   needs-of =
+      let xs : List Sheet = drafted (pages w) r x in
+      let k : length xs ≡ x .count = length-drafted w r x _ p in
+      let js : List Image = map (imageOf (n + length xs + 1)) xs in
+      let rs : List Rec = logging js ++ (LE (g .unit) js ∷ []) in
+      let b : sizes rs ≡ 272 * (length xs - 0) + 16 = lacking-sizes (g .unit) n [] xs in
+      let m : length rs ≡ length xs - 0 + 1 = lacking-count (g .unit) n [] xs in
       record {
         refused = λ f. stages ∙ rw (plan-refuses w r x _ p f);
-        lacked = λ e. let xs : List Sheet = drafted (pages w) r x in
-            let k : length xs ≡ x .count = length-drafted w r x _ p in
-            record {
-              recs = logging (map (imageOf (n + length xs + 1)) xs) ++ (LE (g .unit) (map (imageOf (n + length xs + 1)) xs) ∷ []);
-              are = stages ∙ rw (plan-lists w r x _ p e);
-              bytes = lacking-sizes (g .unit) n [] xs ∙ rw k;
-              count = lacking-count (g .unit) n [] xs ∙ rw k;
-            };
+        lacked = λ e. record { recs = rs; are = stages ∙ rw (plan-lists w r x _ p e); bytes = omega (arith, b, k); count = omega (arith, m, k) };
       }

@@ -72,7 +72,14 @@ fn agrees(work: &[u8], log: &[u8], w: Walk, x: Plan) -> bool
     }
     let at = w.begin + kind::LB_LONG;
     let from = at + 16;
-    same_images(work, &log[at..at + 16], x, LogNo(end as u32), &log[from..], w.done as u8)
+    same_images(
+        work,
+        &log[at..at + 16],
+        x,
+        LogNo(end as u32),
+        &log[from..],
+        w.done as u8,
+    )
 }
 
 // The pages changed, or the reply that refuses them: 3, 8, 18 or 15, and 5 where an image logged is another.

@@ -1,5 +1,5 @@
 -- `resuming::carrying::admitted` meets its contract. Assumes nothing.
-use Rattle.resuming.proofs.Carries.{tested-full!, tested-last!, tested-ok!}
+use Rattle.resuming.proofs.Carries.{tested-full!, tested-last!, tested-ok! }
 use borrow.Author.Needs.{needs}
 use Rattle.resuming.proofs.carrying.admitted.Statement.{statement}
 use Rattle.resuming.proofs.carrying.admitted.Tie as tie

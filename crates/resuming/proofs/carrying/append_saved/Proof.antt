@@ -3,7 +3,7 @@ use native.Mathlib.Omega.{arith}
 use mathlib.Core.Path.{sym, _∙_}
 use Rattle.log.specs.Record.{lengthOf}
 use Rattle.resuming.specs.Lacking.{firstNumber, lastNumber}
-use Rattle.resuming.proofs.Agrees.{draft-ready!}
+use Rattle.resuming.proofs.Agrees.{draft-ready! }
 use Rattle.resuming.proofs.Carries.{tested-room, carry-refused, done-few, carry-stopped, carry-end, carry-image}
 use borrow.Author.Needs.{needs}
 use Rattle.resuming.proofs.carrying.append_saved.Statement.{statement}

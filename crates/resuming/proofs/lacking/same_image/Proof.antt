@@ -1,7 +1,7 @@
 -- `resuming::lacking::same_image` meets its contract. Assumes nothing.
 use native.Mathlib.Omega.{arith}
 use Rattle.log.specs.Record.{lengthOf}
-use Rattle.resuming.proofs.Agrees.{page-other!, page-same!}
+use Rattle.resuming.proofs.Agrees.{page-other!, page-same! }
 use borrow.Author.Needs.{needs}
 use Rattle.resuming.proofs.lacking.same_image.Statement.{statement}
 use Rattle.resuming.proofs.lacking.same_image.Tie as tie

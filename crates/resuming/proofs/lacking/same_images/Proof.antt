@@ -9,7 +9,7 @@ use Rattle.log.specs.Record.{lengthOf}
 use Rattle.log.specs.Scan.{imagesIn}
 use Rattle.saving.specs.Rest.{imageOf, begins}
 use Rattle.resuming.specs.Lacking.{drafted}
-use Rattle.resuming.proofs.Agrees.{images-start, images-end!, images-stopped, images-turned, draft-ready!, image-there!}
+use Rattle.resuming.proofs.Agrees.{images-start, images-end!, images-stopped, images-turned, draft-ready!, image-there! }
 use borrow.Author.Needs.{needs}
 use Rattle.resuming.proofs.lacking.same_images.Statement.{statement}
 use Rattle.resuming.proofs.lacking.same_images.Tie as tie

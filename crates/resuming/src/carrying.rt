@@ -1,15 +1,14 @@
 // The put or delete that is open at the log's end, carried on by the first record that it lacks, or a reply of its tests and nothing changed.
 // Each function is lent the log whole, and w is what one pass over it knows at its end.
 ghost use mathlib.Core.Path.{_≡_};
-ghost use mathlib.Core.Option.{some};
-ghost use Prim.Native.Nat.{ℕ, _+_, _*_, _≤_, _<_};
+ghost use Prim.Native.Nat.{_+_, _≤_, _<_};
 ghost use lib.ListN.{length};
 ghost use Rattle.field.specs.Bytes.{put};
 ghost use Rattle.page.specs.Pages.{pages};
 ghost use Rattle.log.specs.Record.{image, end, lengthOf, LG, LE, encode};
 ghost use Rattle.log.specs.Scan.{imagesOn};
 ghost use Rattle.unit.specs.Made.{ended};
-ghost use Rattle.saving.specs.Draft.{sheetOf, Ready, draftAt};
+ghost use Rattle.saving.specs.Draft.{sheetOf, Ready};
 ghost use Rattle.saving.specs.Rest.{imageOf};
 ghost use Rattle.resuming.specs.Lacking.{Unfinished, recordOn, lastNumber};
 ghost use Rattle.resuming.specs.Concluded.{outcome, concludedOn, tested};
@@ -28,7 +27,7 @@ fn admitted(w: Walk, k: usize) -> u8
     requires { ⌜ (w .at ≤ 8192) × (k ≤ 4) ⌝ }
     ensures { λ r. ⌜ r ≡ tested (w .at) (w .number .0) k ⌝ }
 {
-    if 8192 < w.at + (272 * k + 16) {
+    if 8192 < w.at + ((kind::LG_LONG + 256) * k + kind::LE_LONG) {
         return 6;
     }
     if 4294967295 < w.number.0 as usize + (k + 1) {

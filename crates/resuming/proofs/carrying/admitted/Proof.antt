@@ -4,14 +4,17 @@ use borrow.Author.Needs.{needs}
 use Rattle.resuming.proofs.carrying.admitted.Statement.{statement}
 use Rattle.resuming.proofs.carrying.admitted.Tie as tie
 
-mul-if1 : tie.Need-mul-if1
-mul-if1 c = search needs
-
 add-if1 : tie.Need-add-if1
 add-if1 c = search needs
 
+mul-if1 : tie.Need-mul-if1
+mul-if1 c = search needs
+
 add-if1-2 : tie.Need-add-if1-2
 add-if1-2 c = search needs
+
+add-if1-3 : tie.Need-add-if1-3
+add-if1-3 c = search needs
 
 returns : tie.Need-returns
 returns c = search tested-full!
@@ -35,9 +38,10 @@ pub admitted-spec : {M : Type 1} → statement M
 admitted-spec =
     tie.close
     (tie.spec
-    mul-if1
     add-if1
+    mul-if1
     add-if1-2
+    add-if1-3
     returns
     cast-if2
     add-if2

@@ -10,7 +10,7 @@ use Rattle.resuming.proofs.carrying.append_image.Tie as tie
 
 add-at : tie.Need-add-at
 unfolding lengthOf
-add-at c = omega (arith, c .before .before .before .pre .1 .laid, c .before .before .before .pre .1 .inside)
+add-at c = let u = c .before .before .before .pre .1 in omega (arith, u .laid, u .inside)
 
 cast-end : tie.Need-cast-end
 cast-end c = search needs
@@ -26,7 +26,7 @@ add-end-2 c = search needs
 
 add-draw : tie.Need-add-draw
 unfolding lengthOf
-add-draw c = omega (arith, c .before .before .before .before .before .pre .1 .laid, c .before .before .before .before .before .pre .1 .inside)
+add-draw c = let u = c .before .before .before .before .before .pre .1 in omega (arith, u .laid, u .inside)
 
 sub-draw : tie.Need-sub-draw
 sub-draw c = search needs
@@ -36,14 +36,16 @@ part-draw-start c = search needs
 
 part-draw-end : tie.Need-part-draw-end
 unfolding lengthOf
-part-draw-end c = omega (arith, c .before .before .before .before .before .before .pre .1 .laid, c .before .before .before .before .before .before .pre .1 .inside)
+part-draw-end c = let u = c .before .before .before .before .before .before .pre .1 in omega (arith, u .laid, u .inside)
 
 cast-t17 : tie.Need-cast-t17
 unfolding lastNumber firstNumber
 cast-t17 c = omega (arith, c .before .before .before .before .before .before .before .pre .5)
 
 draw-requires : tie.Need-draw-requires
-draw-requires c κs = (c .before .before .before .before .before .before .before .pre .0, record-long (c .before .before .before .before .before .before .before .args .log .now) (c .before .before .before .before .before .before .before .args .w) (c .before .before .before .before .before .before .before .pre .1), c .before .before .before .before .before .before .before .pre .2)
+draw-requires c κs =
+    let a = c .before .before .before .before .before .before .before in
+    (a .pre .0, record-long (a .args .log .now) (a .args .w) (a .pre .1), a .pre .2)
 
 add-t17 : tie.Need-add-t17
 add-t17 c = search needs
@@ -58,7 +60,9 @@ same-length : tie.Need-same-length
 same-length c = search needs
 
 returns : tie.Need-returns
-returns c = image-written (c .before .before .before .before .before .before .before .before .before .before .before .before .before .before .args .log .now) (c .before .before .before .before .before .before .before .before .before .before .before .before .before .before .args .work .now) (c .before .before .before .before .before .before .before .before .before .before .before .before .before .before .args .w) _ (c .before .before .before .before .before .before .before .before .before .before .before .before .before .before .args .k) (c .before .before .before .before .before .before .before .before .before .before .before .before .before .before .args .d) _ (c .before .before .before .before .before .before .draw .ensures) _ (c .before .before .put-image .ensures)
+returns c =
+    let a = c .before .before .before .before .before .before .before .before .before .before .before .before .before .before in
+    image-written (a .args .log .now) (a .args .work .now) (a .args .w) _ (a .args .k) (a .args .d) _ (c .before .before .before .before .before .before .draw .ensures) _ (c .before .before .put-image .ensures)
 
 pub append-image-spec : {M : Type 1} → statement M
 append-image-spec =

@@ -9,11 +9,11 @@ use Rattle.resuming.proofs.lacking.lacked.Tie as tie
 
 add-at : tie.Need-add-at
 unfolding lengthOf
-add-at c = omega (arith, c .before .before .before .pre .1 .laid, c .before .before .before .pre .1 .inside)
+add-at c = let u = c .before .before .before .pre .1 in omega (arith, u .laid, u .inside)
 
 add-worked : tie.Need-add-worked
 unfolding lengthOf
-add-worked c = omega (arith, c .before .before .before .pre .1 .laid, c .before .before .before .pre .1 .inside)
+add-worked c = let u = c .before .before .before .pre .1 in omega (arith, u .laid, u .inside)
 
 sub-worked : tie.Need-sub-worked
 sub-worked c = search needs
@@ -23,33 +23,43 @@ part-worked-start c = search needs
 
 part-worked-end : tie.Need-part-worked-end
 unfolding lengthOf
-part-worked-end c = omega (arith, c .before .before .before .pre .1 .laid, c .before .before .before .pre .1 .inside)
+part-worked-end c = let u = c .before .before .before .pre .1 in omega (arith, u .laid, u .inside)
 
 add-worked-2 : tie.Need-add-worked-2
 unfolding lengthOf
-add-worked-2 c = omega (arith, c .before .before .before .before .before .pre .1 .laid, c .before .before .before .before .before .pre .1 .inside)
+add-worked-2 c = let u = c .before .before .before .before .before .pre .1 in omega (arith, u .laid, u .inside)
 
 shared-slice-read-worked : tie.Need-shared-slice-read-worked
 unfolding lengthOf
-shared-slice-read-worked c = omega (arith, c .before .before .before .before .before .before .pre .1 .laid, c .before .before .before .before .before .before .pre .1 .inside)
+shared-slice-read-worked c = let u = c .before .before .before .before .before .before .pre .1 in omega (arith, u .laid, u .inside)
 
 worked-requires : tie.Need-worked-requires
-worked-requires c κs = (c .before .before .before .before .before .before .pre .0, record-long (c .before .before .before .before .before .before .args .log .now) (c .before .before .before .before .before .before .args .w) (c .before .before .before .before .before .before .pre .1))
+worked-requires c κs =
+    let a = c .before .before .before .before .before .before in
+    (a .pre .0, record-long (a .args .log .now) (a .args .w) (a .pre .1))
 
 returns : tie.Need-returns
-returns c = found-refuses (c .before .before .before .before .before .before .before .before .before .args .log .now) (c .before .before .before .before .before .before .before .before .before .args .work .now) (c .before .before .before .before .before .before .before .before .before .args .w) _ (c .before .before .worked .ensures) (c .if1 .taken)
+returns c =
+    let a = c .before .before .before .before .before .before .before .before .before in
+    found-refuses (a .args .log .now) (a .args .work .now) (a .args .w) _ (c .before .before .worked .ensures) (c .if1 .taken)
 
 agrees-requires : tie.Need-agrees-requires
-agrees-requires c κs = (c .before .before .before .before .before .before .before .before .before .pre .0, c .before .before .before .before .before .before .before .before .before .pre .1, found-lists (c .before .before .before .before .before .before .before .before .before .args .log .now) (c .before .before .before .before .before .before .before .before .before .args .work .now) (c .before .before .before .before .before .before .before .before .before .args .w) _ (c .before .before .worked .ensures) (c .if1 .left))
+agrees-requires c κs =
+    let a = c .before .before .before .before .before .before .before .before .before in
+    (a .pre .0, a .pre .1, found-lists (a .args .log .now) (a .args .work .now) (a .args .w) _ (c .before .before .worked .ensures) (c .if1 .left))
 
 refused-requires : tie.Need-refused-requires
 refused-requires c κs = search needs
 
 returns-2 : tie.Need-returns-2
-returns-2 c = found-other (c .before .before .before .before .before .before .before .before .before .before .before .before .args .log .now) (c .before .before .before .before .before .before .before .before .before .before .before .before .args .work .now) (c .before .before .before .before .before .before .before .before .before .before .before .before .args .w) _ (c .before .before .before .before .before .worked .ensures) (c .before .before .before .if1 .left) _ (c .before .before .agrees .ensures) (c .before .if2 .taken) _ (c .refused .ensures)
+returns-2 c =
+    let a = c .before .before .before .before .before .before .before .before .before .before .before .before in
+    found-other (a .args .log .now) (a .args .work .now) (a .args .w) _ (c .before .before .before .before .before .worked .ensures) (c .before .before .before .if1 .left) _ (c .before .before .agrees .ensures) (c .before .if2 .taken) _ (c .refused .ensures)
 
 returns-3 : tie.Need-returns-3
-returns-3 c = found-same (c .before .before .before .before .before .before .before .before .before .before .before .args .log .now) (c .before .before .before .before .before .before .before .before .before .before .before .args .work .now) (c .before .before .before .before .before .before .before .before .before .before .before .args .w) _ (c .before .before .before .before .worked .ensures) (c .before .before .if1 .left) _ (c .before .agrees .ensures) (c .if2 .left)
+returns-3 c =
+    let a = c .before .before .before .before .before .before .before .before .before .before .before in
+    found-same (a .args .log .now) (a .args .work .now) (a .args .w) _ (c .before .before .before .before .worked .ensures) (c .before .before .if1 .left) _ (c .before .agrees .ensures) (c .if2 .left)
 
 pub lacked-spec : {M : Type 1} → statement M
 lacked-spec =

@@ -3,7 +3,7 @@ use Prim.Native.Nat.{_-_, _*_, _≤_, _<_}
 use native.Mathlib.Omega.{arith}
 use mathlib.Core.Path.{_≡_}
 use mathlib.Core.List.{map}
-use lib.ListN.{length, drop}
+use lib.ListN.{drop}
 use Rattle.page.specs.Pages.{pages}
 use Rattle.log.specs.Record.{lengthOf}
 use Rattle.log.specs.Scan.{imagesIn}
@@ -28,11 +28,11 @@ draft-at-requires c κs = search needs
 
 sub-same-image : tie.Need-sub-same-image Inv-loop μ-loop
 unfolding lengthOf
-sub-same-image c = omega (arith, c .before .before .before .before .before .before .pre .1 .1, c .before .before .loop .inv .1)
+sub-same-image c = let u = c .before .before .before .before .before .before .pre .1 in omega (arith, u .1, c .before .before .loop .inv .1)
 
 part-same-image-start : tie.Need-part-same-image-start Inv-loop μ-loop
 unfolding lengthOf
-part-same-image-start c = omega (arith, c .before .before .before .before .before .before .pre .1 .1, c .before .before .loop .inv .1)
+part-same-image-start c = let u = c .before .before .before .before .before .before .pre .1 in omega (arith, u .1, c .before .before .loop .inv .1)
 
 part-same-image-end : tie.Need-part-same-image-end Inv-loop μ-loop
 part-same-image-end c = search needs
@@ -42,12 +42,15 @@ same-image-requires c κs = search (needs, draft-ready!, image-there!)
 
 returns : tie.Need-returns Inv-loop μ-loop
 returns c =
-    let small : c .before .before .before .before .before .before .before .before .before .args .n .0 < 4294967296 = omega (arith, c .before .before .before .before .before .before .before .before .before .good .1 .1 .1 .0) in
-    images-stopped (c .before .before .before .before .before .before .before .before .before .args .work .now) (c .before .before .before .before .before .before .before .before .before .args .r .now) (c .before .before .before .before .before .before .before .before .before .args .x) (c .before .before .before .before .before .before .before .before .before .pre .0 .2) (c .before .before .before .before .before .before .before .before .before .args .n .0) small (c .before .before .before .before .before .before .before .before .before .args .m .now) (c .before .before .before .before .before .before .before .before .before .args .k) (c .before .before .before .before .before .before .before .before .before .pre .1 .0) _ _ (c .before .before .before .before .before .loop .inv .2) (c .before .before .before .before .loop-test .taken) _ (c .before .before .before .draft-at .ensures) _ (c .before .same-image .ensures) (c .if1 .taken)
+    let t = c .before .before .before .before in
+    let a = c .before .before .before .before .before .before .before .before .before in
+    let small : a .args .n .0 < 4294967296 = omega (arith, a .good .1 .1 .1 .0) in
+    images-stopped (a .args .work .now) (a .args .r .now) (a .args .x) (a .pre .0 .2) (a .args .n .0) small (a .args .m .now) (a .args .k) (a .pre .1 .0)
+    _ _ (t .before .loop .inv .2) (t .loop-test .taken) _ (c .before .before .before .draft-at .ensures) _ (c .before .same-image .ensures) (c .if1 .taken)
 
 add-at : tie.Need-add-at Inv-loop μ-loop
 unfolding lengthOf
-add-at c = omega (arith, c .before .before .before .before .before .before .before .before .before .pre .1 .1, c .before .before .before .before .before .loop .inv .1)
+add-at c = let u = c .before .before .before .before .before .before .before .before .before .pre .1 in omega (arith, u .1, c .before .before .before .before .before .loop .inv .1)
 
 add-at-2 : tie.Need-add-at-2 Inv-loop μ-loop
 add-at-2 c = search needs
@@ -60,17 +63,20 @@ loop-less c = omega arith
 
 loop-again : tie.Need-loop-again Inv-loop μ-loop
 loop-again c =
-    let small : c .before .before .before .before .before .before .before .before .before .args .n .0 < 4294967296 = omega (arith, c .before .before .before .before .before .before .before .before .before .good .1 .1 .1 .0) in (
+    let t = c .before .before .before .before in
+    let a = c .before .before .before .before .before .before .before .before .before in
+    let small : a .args .n .0 < 4294967296 = omega (arith, a .good .1 .1 .1 .0) in (
       omega arith,
-      omega (arith, c .before .before .before .before .before .loop .inv .1),
-      images-turned (c .before .before .before .before .before .before .before .before .before .args .work .now) (c .before .before .before .before .before .before .before .before .before .args .r .now) (c .before .before .before .before .before .before .before .before .before .args .x) (c .before .before .before .before .before .before .before .before .before .pre .0 .2) (c .before .before .before .before .before .before .before .before .before .args .n .0) small (c .before .before .before .before .before .before .before .before .before .args .m .now) (c .before .before .before .before .before .before .before .before .before .args .k) (c .before .before .before .before .before .before .before .before .before .pre .1 .0) _ _ (c .before .before .before .before .before .loop .inv .2) (c .before .before .before .before .loop-test .taken) _ (c .before .before .before .draft-at .ensures) _ (c .before .same-image .ensures) (c .if1 .left),
+      omega (arith, t .before .loop .inv .1),
+      images-turned (a .args .work .now) (a .args .r .now) (a .args .x) (a .pre .0 .2) (a .args .n .0) small (a .args .m .now) (a .args .k) (a .pre .1 .0)
+          _ _ (t .before .loop .inv .2) (t .loop-test .taken) _ (c .before .before .before .draft-at .ensures) _ (c .before .same-image .ensures) (c .if1 .left),
     )
 
 returns-2 : tie.Need-returns-2 Inv-loop μ-loop
 returns-2 c =
     let a = c .before .before .before .before .before in
-    images-end! (a .args .n .0) (a .args .m .now) (map (imageOf (a .args .n .0)) (drafted (pages (a .args .work .now)) (a .args .r .now) (a .args .x))) (a .args .k) (c .before .loop .at) (c .before .loop .i) (c .before .loop .inv .2)
-    (c .loop-test .left)
+    images-end! (a .args .n .0) (a .args .m .now) (map (imageOf (a .args .n .0)) (drafted (pages (a .args .work .now)) (a .args .r .now) (a .args .x))) (a .args .k)
+    (c .before .loop .at) (c .before .loop .i) (c .before .loop .inv .2) (c .loop-test .left)
 
 pub same-images-spec : {M : Type 1} → statement M
 same-images-spec =

@@ -182,15 +182,13 @@ module _ (l v : List ℕ) (w : Walk) where
   unfolding imageOf sheetOf
   image-is n r d = refl
 
-  pub image-written : (n k : ℕ) (d : Draft) (pg : List ℕ)
-      → pg ≡ drawn (w .number .0 - w .done + k + 1) (sheetOf (pages v) (take (w .begin + 44 + 16 - (w .begin + 44)) (drop (w .begin + 44) l)) d) → (l′ : List ℕ)
+  pub image-written : (n k last : ℕ) → last ≡ lastNumber w k → (d : Draft) (pg : List ℕ)
+      → pg ≡ drawn last (sheetOf (pages v) (take (w .begin + 44 + 16 - (w .begin + 44)) (drop (w .begin + 44) l)) d) → (l′ : List ℕ)
       → l′ ≡ put (w .at) (encode n (LG (record { at = d .page .0; bytes = pg }))) l
       → l′ ≡ put (w .at) (encode n (LG (imageOf (lastNumber w k) (sheetOf (pages v) (recordOn l w) d)))) l
-  unfolding lastNumber firstNumber
-  image-written n k d pg e l′ el =
-      let last : ℕ = w .number .0 - w .done + k + 1 in
-      let q : pg ≡ drawn last (sheetOf (pages v) (recordOn l w) d) = e ∙ rw (record-lent l w) in
-      el ∙ rw q (ap (λ (i : Image). put (w .at) (encode n (LG i)) l) (image-is last (recordOn l w) d))
+  image-written n k last ek d pg e l′ el =
+      let q : pg ≡ drawn (lastNumber w k) (sheetOf (pages v) (recordOn l w) d) = e ∙ rw (ek, record-lent l w) in
+      el ∙ rw q (ap (λ (i : Image). put (w .at) (encode n (LG i)) l) (image-is (lastNumber w k) (recordOn l w) d))
 
   pub end-put : (n : ℕ) (l′ : List ℕ) → l′ ≡ put (w .at) (encode n (LE (w .unit .0) [])) l → l′ ≡ put (w .at) (encode n (LE (w .unit .0) (imagesOn l w))) l
   unfolding encode size carried kindOf previous body

@@ -42,7 +42,7 @@ fn append_image(work: &[u8], log: &mut [u8], w: Walk, d: Draft, k: u8)
     ensures { λ _. ⌜ now (log .exit) ≡ put (w .at) (encode (w .number .0 + 1) (LG (imageOf (lastNumber w k) (sheetOf (pages (now (work .entry))) (recordOn (now (log .entry)) w) d)))) (now (log .entry)) ⌝ }
 {
     let at = w.begin + kind::LB_LONG;
-    let end = w.number.0 as usize - w.done + k as usize + 1;
+    let end = lacking::last_number(w, k);
     let page = draw::draw(work, &log[at..at + 16], d, LogNo(end as u32));
     writing::put_image(log, w.at, LogNo(w.number.0 + 1), d.page, &page);
 }

@@ -3,7 +3,6 @@ use native.Mathlib.Omega.{arith}
 use Rattle.log.specs.Record.{lengthOf}
 use Rattle.resuming.proofs.Agrees.{record-long}
 use Rattle.resuming.proofs.Carries.{image-written}
-use Rattle.resuming.specs.Lacking.{firstNumber, lastNumber}
 use borrow.Author.Needs.{needs}
 use Rattle.resuming.proofs.carrying.append_image.Statement.{statement}
 use Rattle.resuming.proofs.carrying.append_image.Tie as tie
@@ -12,21 +11,12 @@ add-at : tie.Need-add-at
 unfolding lengthOf
 add-at c = let u = c .before .before .before .pre .1 in omega (arith, u .laid, u .inside)
 
-cast-end : tie.Need-cast-end
-cast-end c = search needs
-
-sub-end : tie.Need-sub-end
-sub-end c = search needs
-
-add-end : tie.Need-add-end
-add-end c = search needs
-
-add-end-2 : tie.Need-add-end-2
-add-end-2 c = search needs
+last-number-requires : tie.Need-last-number-requires
+last-number-requires c κs = c .before .before .before .pre .1 .counted
 
 add-draw : tie.Need-add-draw
 unfolding lengthOf
-add-draw c = let u = c .before .before .before .before .before .pre .1 in omega (arith, u .laid, u .inside)
+add-draw c = let u = c .before .before .before .before .pre .1 in omega (arith, u .laid, u .inside)
 
 sub-draw : tie.Need-sub-draw
 sub-draw c = search needs
@@ -36,19 +26,18 @@ part-draw-start c = search needs
 
 part-draw-end : tie.Need-part-draw-end
 unfolding lengthOf
-part-draw-end c = let u = c .before .before .before .before .before .before .pre .1 in omega (arith, u .laid, u .inside)
+part-draw-end c = let u = c .before .before .before .before .before .pre .1 in omega (arith, u .laid, u .inside)
 
-cast-t17 : tie.Need-cast-t17
-unfolding lastNumber firstNumber
-cast-t17 c = omega (arith, c .before .before .before .before .before .before .before .pre .5)
+cast-t15 : tie.Need-cast-t15
+cast-t15 c = omega (arith, c .before .before .before .before .before .before .pre .5, c .before .before .last-number .ensures)
 
 draw-requires : tie.Need-draw-requires
 draw-requires c κs =
-    let a = c .before .before .before .before .before .before .before in
+    let a = c .before .before .before .before .before .before in
     (a .pre .0, record-long (a .args .log .now) (a .args .w) (a .pre .1), a .pre .2)
 
-add-t17 : tie.Need-add-t17
-add-t17 c = search needs
+add-t15 : tie.Need-add-t15
+add-t15 c = search needs
 
 slice-aggregate-put-image : tie.Need-slice-aggregate-put-image
 slice-aggregate-put-image c = search needs
@@ -61,25 +50,22 @@ same-length c = search needs
 
 returns : tie.Need-returns
 returns c =
-    let a = c .before .before .before .before .before .before .before .before .before .before .before .before .before .before in
-    image-written (a .args .log .now) (a .args .work .now) (a .args .w) _ (a .args .k) (a .args .d) _ (c .before .before .before .before .before .before .draw .ensures) _ (c .before .before .put-image .ensures)
+    let a = c .before .before .before .before .before .before .before .before .before .before .before .before .before in
+    image-written (a .args .log .now) (a .args .work .now) (a .args .w) _ (a .args .k) _ (c .before .before .before .before .before .before .before .before .before .last-number .ensures) (a .args .d) _ (c .before .before .before .before .before .before .draw .ensures) _ (c .before .before .put-image .ensures)
 
 pub append-image-spec : {M : Type 1} → statement M
 append-image-spec =
     tie.close
     (tie.spec
     add-at
-    cast-end
-    sub-end
-    add-end
-    add-end-2
+    last-number-requires
     add-draw
     sub-draw
     part-draw-start
     part-draw-end
-    cast-t17
+    cast-t15
     draw-requires
-    add-t17
+    add-t15
     slice-aggregate-put-image
     put-image-requires
     same-length

@@ -9,7 +9,7 @@ use Rattle.log.specs.Record.{lengthOf}
 use Rattle.log.specs.Scan.{imagesIn}
 use Rattle.saving.specs.Rest.{imageOf, begins}
 use Rattle.resuming.specs.Lacking.{drafted}
-use Rattle.resuming.proofs.Agrees.{images-start, images-end!, images-stopped, images-turned, draft-ready!, image-there! }
+use Rattle.resuming.proofs.Agrees.{images-start, images-end, images-stopped, images-turned, draft-ready!, image-there! }
 use borrow.Author.Needs.{needs}
 use Rattle.resuming.proofs.lacking.same_images.Statement.{statement}
 use Rattle.resuming.proofs.lacking.same_images.Tie as tie
@@ -75,7 +75,7 @@ loop-again c =
 returns-2 : tie.Need-returns-2 Inv-loop μ-loop
 returns-2 c =
     let a = c .before .before .before .before .before in
-    images-end! (a .args .n .0) (a .args .m .now) (map (imageOf (a .args .n .0)) (drafted (pages (a .args .work .now)) (a .args .r .now) (a .args .x))) (a .args .k)
+    images-end (a .args .n .0) (a .args .m .now) (map (imageOf (a .args .n .0)) (drafted (pages (a .args .work .now)) (a .args .r .now) (a .args .x))) (a .args .k)
     (c .before .loop .at) (c .before .loop .i) (c .before .loop .inv .2) (c .loop-test .left)
 
 pub same-images-spec : {M : Type 1} → statement M

@@ -32,7 +32,7 @@ use Rattle.saving.specs.Rest.{imageOf, begins}
 use Rattle.saving.specs.declared.draft.Draft.{Draft}
 use Rattle.saving.specs.declared.plan.Plan.{Plan}
 use Rattle.saving.proofs.Told.{told-ready, told-count, told-at}
-use Rattle.resuming.specs.Lacking.{drafted, Unfinished, recordOn, firstNumber, lastNumber}
+use Rattle.resuming.specs.Lacking.{drafted, Unfinished, recordOn, lastNumber}
 use Rattle.resuming.proofs.Stages.{length-mapped, length-drafted}
 
 -- ---- one image
@@ -74,9 +74,9 @@ pub images-start : (n : ℕ) (m : List ℕ) (js : List Image) (k : ℕ) → begi
 images-start n m js k = let z : k - 0 ≡ k = omega arith in rw z
 
 module _ (n : ℕ) (m : List ℕ) (js : List Image) (k at i : ℕ) (e : begins n (imagesIn k m) js ≡ begins n (imagesIn (k - i) (drop at m)) (drop i js)) where
-  pub images-end! : k ≤ i → true ≡ begins n (imagesIn k m) js
+  pub images-end : k ≤ i → true ≡ begins n (imagesIn k m) js
   unfolding imagesIn begins
-  images-end! h = let z : k - i ≡ 0 = omega arith in sym (e ∙ rw z)
+  images-end h = let z : k - i ≡ 0 = omega arith in sym (e ∙ rw z)
 
   module _ (small : n < 4294967296) (s : Sheet) (es : drop i js ≡ imageOf n s ∷ drop (i + 1) js) (h : i < k) (z : Bool)
       (ez : z ≡ both (eqb (le2 (take (length m - at) (drop at m)) 12) (s .at)) (same (part 16 256 (take (length m - at) (drop at m))) (drawn n s))) where
@@ -237,23 +237,26 @@ module _ (l : List ℕ) (w : Walk) where
     abbrev agree : Bool
     agree = begins (lastNumber w (x .count)) (imagesOn l w) (map (imageOf (lastNumber w (x .count))) (drafted (pages v) (recordOn l w) x))
 
-    pub agree-none! : w .done ≡ 0 → true ≡ agree
+    pub agree-none : w .done ≡ 0 → true ≡ agree
     unfolding imagesOn imagesIn begins
-    agree-none! h = rw h
+    agree-none h = rw h
 
-    pub agree-few! : x .count < w .done → Plans v (recordOn l w) x (sheets (drafted (pages v) (recordOn l w) x)) → false ≡ agree
-    agree-few! h p =
-        let js : List Image = map (imageOf (lastNumber w (x .count))) (drafted (pages v) (recordOn l w) x) in
-        let c : length js ≡ x .count = length-mapped _ _ ∙ length-drafted v (recordOn l w) x _ p in
+    pub agree-few : x .count < w .done → Plans v (recordOn l w) x (sheets (drafted (pages v) (recordOn l w) x)) → false ≡ agree
+    agree-few h p =
+        let xs : List Sheet = drafted (pages v) (recordOn l w) x in
+        let js : List Image = map (imageOf (lastNumber w (x .count))) xs in
+        let c : length js ≡ x .count = length-mapped (imageOf (lastNumber w (x .count))) xs ∙ length-drafted v (recordOn l w) x _ p in
         let k : length js < length (imagesOn l w) = omega (arith, c, many-images) in
         sym (begins-long (lastNumber w (x .count)) (imagesOn l w) js k)
 
-    pub agree-high : (w .done ≡ 0 → ⊥) → Filed 0 (imagesOn l w) → 4294967295 < w .number .0 - w .done + x .count + 1 → false ≡ agree
-    unfolding lastNumber firstNumber
-    agree-high f q h = let k : 0 < length (imagesOn l w) = omega (arith, many-images) in sym (begins-high _ 0 (imagesOn l w) _ q k h)
+    module _ (last : ℕ) (el : last ≡ lastNumber w (x .count)) where
+      pub agree-high : (w .done ≡ 0 → ⊥) → Filed 0 (imagesOn l w) → 4294967295 < last → false ≡ agree
+      agree-high f q h =
+          let k : 0 < length (imagesOn l w) = omega (arith, many-images) in
+          let m : 4294967295 < lastNumber w (x .count) = omega (arith, el) in
+          sym (begins-high (lastNumber w (x .count)) 0 (imagesOn l w) _ q k m)
 
-    pub agree-all : (z : Bool)
-        → z ≡ begins (w .number .0 - w .done + x .count + 1) (imagesIn (w .done) (take (length l - (w .begin + 44 + 16)) (drop (w .begin + 44 + 16) l)))
-        (map (imageOf (w .number .0 - w .done + x .count + 1)) (drafted (pages v) (take (w .begin + 44 + 16 - (w .begin + 44)) (drop (w .begin + 44) l)) x)) → z ≡ agree
-    unfolding lastNumber firstNumber
-    agree-all z e = e ∙ rw (images-lent, record-lent)
+      pub agree-all : (z : Bool)
+          → z ≡ begins last (imagesIn (w .done) (take (length l - (w .begin + 44 + 16)) (drop (w .begin + 44 + 16) l)))
+          (map (imageOf last) (drafted (pages v) (take (w .begin + 44 + 16 - (w .begin + 44)) (drop (w .begin + 44) l)) x)) → z ≡ agree
+      agree-all z e = e ∙ rw (el, images-lent, record-lent)

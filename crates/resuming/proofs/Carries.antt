@@ -1,20 +1,20 @@
 -- What comes of carrying an open put or delete on: a refusal, the next LG, or the LE. Assumes nothing.
-use Prim.Native.Nat.{ℕ, suc, _+_, _-_, _*_, _≤_, _<_}
+use Prim.Native.Nat.{ℕ, _+_, _-_, _*_, _≤_, _<_}
 use native.Mathlib.Omega.{arith}
 use mathlib.Core.Path.{_≡_, refl, sym, ap, ap₂, _∙_}
 use mathlib.Core.Bool.{Bool, true, false}
 use mathlib.Core.List.{List, [], _∷_, _++_, map}
-use mathlib.Core.Option.{Option, some}
+use mathlib.Core.Option.{some}
 use lib.ListN.{length, take, drop, getD, drop-of-length-le}
 use lib.Seq.{getD-drop}
 use lib.Dec.{leb}
 use borrow.Author.Tests.{leb-true, le-leb, lt-leb}
-use Rattle.field.specs.Test.{pick, need, given}
+use Rattle.field.specs.Test.{need}
 use Rattle.field.specs.Bytes.{part, put, most4}
 use Rattle.field.proofs.Test.{pick-true, need-true, need-false, given-some}
 use Rattle.field.proofs.Part.{part-drop}
 use Rattle.page.specs.Pages.{pages}
-use Rattle.log.specs.Record.{Begin, Image, Rec, LG, LE, kindOf, carried, size, body, previous, encode}
+use Rattle.log.specs.Record.{lengthOf, Image, Rec, LG, LE, kindOf, carried, size, body, previous, encode}
 use Rattle.log.specs.Log.{readBegin}
 use Rattle.log.specs.Valid.{Filed}
 use Rattle.log.specs.Scan.{imagesIn, imagesOn}
@@ -24,7 +24,7 @@ use Rattle.unit.specs.Made.{ended}
 use Rattle.unit.proofs.Ended.{end-applies}
 use Rattle.saving.specs.Save.{Sheet, drawn, sheets}
 use Rattle.saving.specs.Draft.{sheetOf, draftAt, Plans}
-use Rattle.saving.specs.Rest.{imageOf, Rest, refuses, lacks, begins, logging}
+use Rattle.saving.specs.Rest.{imageOf, Rest, begins, logging}
 use Rattle.saving.specs.declared.draft.Draft.{Draft}
 use Rattle.saving.specs.declared.plan.Plan.{Plan}
 use Rattle.resuming.specs.Lacking.{worked, compared, lacking, drafted, Unfinished, typeOn, recordOn, firstNumber, lastNumber, lacked}
@@ -36,16 +36,16 @@ use Rattle.resuming.proofs.Agrees.{many-images, record-lent, images-len
 
 module _ (at n k : ℕ) where
   pub tested-full! : 8192 < at + (272 * k + 16) → 6 ≡ tested at n k
-  unfolding tested
+  unfolding tested lengthOf
   tested-full! h = sym (need-false _ _ _ (lt-leb (at + (272 * k + 16)) 8192 h))
 
   module _ (h : at + (272 * k + 16) ≤ 8192) where
     pub tested-last! : 4294967295 < n + (k + 1) → 7 ≡ tested at n k
-    unfolding tested
+    unfolding tested lengthOf
     tested-last! m = sym (need-true _ _ _ (le-leb (at + (272 * k + 16)) 8192 h) ∙ need-false _ _ _ (lt-leb (n + (k + 1)) most4 m))
 
     pub tested-ok! : n + (k + 1) ≤ 4294967295 → 0 ≡ tested at n k
-    unfolding tested
+    unfolding tested lengthOf
     tested-ok! m = sym (need-true _ _ _ (le-leb (at + (272 * k + 16)) 8192 h) ∙ need-true _ _ _ (le-leb (n + (k + 1)) most4 m))
 
 passed : (a b : Bool) → _≡_ {A = ℕ} (need a 6 (need b 7 0)) 0 → (a ≡ true) × (b ≡ true)
@@ -56,7 +56,7 @@ passed false b e = absurd (let y : ⊥ = omega arith in y)
 
 -- where both hold, there is room, and there are numbers
 pub tested-room : (at n k : ℕ) → tested at n k ≡ 0 → (at + (272 * k + 16) ≤ 8192) × (n + (k + 1) ≤ 4294967295)
-unfolding tested
+unfolding tested lengthOf
 tested-room at n k e = let p = passed _ _ e in (leb-true _ _ (p .0), leb-true _ _ (p .1))
 
 module _ (v l : List ℕ) (o : Outcome) where
@@ -141,12 +141,12 @@ module _ (l v : List ℕ) (w : Walk) (u : Unfinished l w) (x : Plan) (p : Plans 
         ∙ rw (lacking-sizes (w .unit .0) (firstNumber w) is xs, lacking-count (w .unit .0) (firstNumber w) is xs, many, many-images l w)
 
     pub carry-stopped : (reply : ℕ) → reply ≡ tested (w .at) (w .number .0) (x .count - w .done) → (reply ≡ 0 → ⊥) → outcome reply v l ≡ concludedOn w v l
-    unfolding tested
+    unfolding tested lengthOf
     carry-stopped reply q f = stopped-by v l _ _ _ reply q f ∙ sym outcome-is
 
     module _ (q : tested (w .at) (w .number .0) (x .count - w .done) ≡ 0) where
       first-is : concludedOn w v l ≡ firstOf (w .at) (w .number .0) recs v l
-      unfolding tested
+      unfolding tested lengthOf
       first-is = outcome-is ∙ passed-by v l _ _ _ q
 
       -- the LE
@@ -182,15 +182,13 @@ module _ (l v : List ℕ) (w : Walk) where
   unfolding imageOf sheetOf
   image-is n r d = refl
 
-  pub image-written : (n k : ℕ) (d : Draft) (pg : List ℕ)
-      → pg ≡ drawn (w .number .0 - w .done + k + 1) (sheetOf (pages v) (take (w .begin + 44 + 16 - (w .begin + 44)) (drop (w .begin + 44) l)) d) → (l′ : List ℕ)
+  pub image-written : (n k last : ℕ) → last ≡ lastNumber w k → (d : Draft) (pg : List ℕ)
+      → pg ≡ drawn last (sheetOf (pages v) (take (w .begin + 44 + 16 - (w .begin + 44)) (drop (w .begin + 44) l)) d) → (l′ : List ℕ)
       → l′ ≡ put (w .at) (encode n (LG (record { at = d .page .0; bytes = pg }))) l
       → l′ ≡ put (w .at) (encode n (LG (imageOf (lastNumber w k) (sheetOf (pages v) (recordOn l w) d)))) l
-  unfolding lastNumber firstNumber
-  image-written n k d pg e l′ el =
-      let last : ℕ = w .number .0 - w .done + k + 1 in
-      let q : pg ≡ drawn last (sheetOf (pages v) (recordOn l w) d) = e ∙ rw (record-lent l w) in
-      el ∙ rw q (ap (λ (i : Image). put (w .at) (encode n (LG i)) l) (image-is last (recordOn l w) d))
+  image-written n k last ek d pg e l′ el =
+      let q : pg ≡ drawn (lastNumber w k) (sheetOf (pages v) (recordOn l w) d) = e ∙ rw (ek, record-lent l w) in
+      el ∙ rw q (ap (λ (i : Image). put (w .at) (encode n (LG i)) l) (image-is (lastNumber w k) (recordOn l w) d))
 
   pub end-put : (n : ℕ) (l′ : List ℕ) → l′ ≡ put (w .at) (encode n (LE (w .unit .0) [])) l → l′ ≡ put (w .at) (encode n (LE (w .unit .0) (imagesOn l w))) l
   unfolding encode size carried kindOf previous body

@@ -1,6 +1,6 @@
 -- What the code finds of an open put or delete: the pages worked out, and what comes of comparing them with the images logged. Assumes nothing.
 use Prim.Native.Nat.{ℕ, _+_, _-_}
-use mathlib.Core.Path.{_≡_, sym, _∙_}
+use mathlib.Core.Path.{_≡_, sym}
 use mathlib.Core.Bool.{Bool, true, false, not}
 use mathlib.Core.List.{List, map}
 use lib.ListN.{length, take, drop, getD}

@@ -1,26 +1,24 @@
 -- What an open put or delete lacks, in the stages in which the code finds it; and what a plan says of it. Assumes nothing.
-use Prim.Native.Nat.{ℕ, zero, suc, _+_, _-_, _*_, _≤_, _<_}
-use native.Mathlib.Nat.{not-suc-le-zero}
+use Prim.Native.Nat.{ℕ, suc, _+_, _-_, _*_}
 use native.Mathlib.Omega.{arith}
 use mathlib.Core.Path.{_≡_, refl, sym, ap, _∙_}
 use mathlib.Core.Bool.{Bool, true, false, not}
 use mathlib.Core.List.{List, [], _∷_, _++_, map}
-use lib.ListN.{length, take, drop, getD, length-drop}
+use lib.ListN.{length, drop, getD, length-drop}
 use lib.Seq.{length-take-le}
-use lib.Dec.{eqb}
 use borrow.Author.Tests.{eq-eqb, ne-eqb, not-true, not-false}
-use Rattle.field.specs.Test.{pick, need}
+use Rattle.field.specs.Test.{need}
 use Rattle.field.specs.Bytes.{le4}
 use Rattle.field.proofs.Test.{pick-true, pick-false, need-true, need-false}
 use Rattle.page.specs.Page.{keyOf}
 use Rattle.page.specs.Pages.{pages, allFormed}
-use Rattle.log.specs.Record.{image, end, lengthOf, kindOf, carried, size, Begin, Image, Rec, LG, LE, sizes}
+use Rattle.log.specs.Record.{lengthOf, Begin, Image, Rec, LE, kindOf, carried, size, sizes}
 use Rattle.tree.specs.Tree.{wellFormed}
 use Rattle.saving.specs.Save.{Sheet, Changed, cannot, sheets, putSheets, deleteSheets}
-use Rattle.saving.specs.Draft.{sheetOf, planned, Plans}
-use Rattle.saving.specs.Rest.{imageOf, sheetsOf, Rest, refuses, lacks, begins, logging, imaging, saving, resumed}
+use Rattle.saving.specs.Draft.{planned, Plans}
+use Rattle.saving.specs.Rest.{imageOf, sheetsOf, refuses, lacks, begins, logging, imaging, saving, resumed}
 use Rattle.saving.specs.declared.plan.Plan.{Plan}
-use Rattle.resuming.specs.Lacking.{worked, compared, lacking, drafted, Lacks, Needs}
+use Rattle.resuming.specs.Lacking.{worked, compared, lacking, drafted, Needs}
 
 -- ---- the pages worked out, by the tests that the code makes
 
@@ -165,14 +163,13 @@ module _ (g : Begin) (n t : ℕ) (r w : List ℕ) (x : Plan) (p : Plans w r x (w
   pub needs-of : Needs (resumed g n [] w) (x .reply) (x .count)
   unfolding lacking lengthOf
   needs-of =
+      let xs : List Sheet = drafted (pages w) r x in
+      let k : length xs ≡ x .count = length-drafted w r x _ p in
+      let js : List Image = map (imageOf (n + length xs + 1)) xs in
+      let rs : List Rec = logging js ++ (LE (g .unit) js ∷ []) in
+      let b : sizes rs ≡ 272 * (length xs - 0) + 16 = lacking-sizes (g .unit) n [] xs in
+      let m : length rs ≡ length xs - 0 + 1 = lacking-count (g .unit) n [] xs in
       record {
         refused = λ f. stages ∙ rw (plan-refuses w r x _ p f);
-        lacked = λ e. let xs : List Sheet = drafted (pages w) r x in
-            let k : length xs ≡ x .count = length-drafted w r x _ p in
-            record {
-              recs = logging (map (imageOf (n + length xs + 1)) xs) ++ (LE (g .unit) (map (imageOf (n + length xs + 1)) xs) ∷ []);
-              are = stages ∙ rw (plan-lists w r x _ p e);
-              bytes = lacking-sizes (g .unit) n [] xs ∙ rw k;
-              count = lacking-count (g .unit) n [] xs ∙ rw k;
-            };
+        lacked = λ e. record { recs = rs; are = stages ∙ rw (plan-lists w r x _ p e); bytes = omega (arith, b, k); count = omega (arith, m, k) };
       }

@@ -9,8 +9,8 @@ use mathlib.Core.Option.{Option, some, none}
 use lib.ListN.{length, drop}
 use Rattle.field.specs.Test.{given, bind, there}
 use Rattle.log.specs.Record.{saves, Rec, LB, LO, LI, LM, LG, LE}
-use Rattle.log.specs.Log.{Open, State, first, going, noting, openedBy, after, afterAll, savesAt, imagesOf, Log, atEnd}
-use Rattle.log.specs.Scan.{shown, imagesOn, Ready}
+use Rattle.log.specs.Log.{Open, State, first, going, noting, openedBy, after, afterAll, savesAt, Log, atEnd}
+use Rattle.log.specs.Scan.{shown, Ready}
 use Rattle.log.proofs.Sound.{Keeps}
 use Rattle.log.proofs.Held.{Anchored, Holds, keeps, done-some, saves-of, ready, images-on}
 use Rattle.saving.specs.Rest.{restOf}

@@ -6,7 +6,7 @@ use lib.ListN.{length, drop}
 use lib.Dec.{leb}
 use Rattle.field.specs.Test.{need, given}
 use Rattle.field.specs.Bytes.{put, most4}
-use Rattle.log.specs.Record.{Rec, sizes, encode}
+use Rattle.log.specs.Record.{image, end, lengthOf, Rec, sizes, encode}
 use Rattle.log.specs.Log.{readBegin}
 use Rattle.log.specs.Scan.{imagesOn}
 use Rattle.log.specs.declared.scan.Walk.{Walk}
@@ -46,4 +46,4 @@ concludedOn w v l = concluded (w .at) (w .number .0) (restOn l w v) v l
 
 -- tests 6 and 7 where k LGs and the LE are lacked: the reply, 0 where both hold
 unfoldable pub tested : (at n k : ℕ) → ℕ
-tested at n k = need (leb (at + (272 * k + 16)) 8192) 6 (need (leb (n + (k + 1)) most4) 7 0)
+tested at n k = need (leb (at + (lengthOf image 1 * k + lengthOf end 0)) 8192) 6 (need (leb (n + (k + 1)) most4) 7 0)

@@ -1,15 +1,14 @@
 // The put or delete that is open at the log's end, carried on by the first record that it lacks, or a reply of its tests and nothing changed.
 // Each function is lent the log whole, and w is what one pass over it knows at its end.
 ghost use mathlib.Core.Path.{_≡_};
-ghost use mathlib.Core.Option.{some};
-ghost use Prim.Native.Nat.{ℕ, _+_, _*_, _≤_, _<_};
+ghost use Prim.Native.Nat.{_+_, _≤_, _<_};
 ghost use lib.ListN.{length};
 ghost use Rattle.field.specs.Bytes.{put};
 ghost use Rattle.page.specs.Pages.{pages};
 ghost use Rattle.log.specs.Record.{image, end, lengthOf, LG, LE, encode};
 ghost use Rattle.log.specs.Scan.{imagesOn};
 ghost use Rattle.unit.specs.Made.{ended};
-ghost use Rattle.saving.specs.Draft.{sheetOf, Ready, draftAt};
+ghost use Rattle.saving.specs.Draft.{sheetOf, Ready};
 ghost use Rattle.saving.specs.Rest.{imageOf};
 ghost use Rattle.resuming.specs.Lacking.{Unfinished, recordOn, lastNumber};
 ghost use Rattle.resuming.specs.Concluded.{outcome, concludedOn, tested};
@@ -28,7 +27,7 @@ fn admitted(w: Walk, k: usize) -> u8
     requires { ⌜ (w .at ≤ 8192) × (k ≤ 4) ⌝ }
     ensures { λ r. ⌜ r ≡ tested (w .at) (w .number .0) k ⌝ }
 {
-    if 8192 < w.at + (272 * k + 16) {
+    if 8192 < w.at + ((kind::LG_LONG + 256) * k + kind::LE_LONG) {
         return 6;
     }
     if 4294967295 < w.number.0 as usize + (k + 1) {
@@ -43,7 +42,7 @@ fn append_image(work: &[u8], log: &mut [u8], w: Walk, d: Draft, k: u8)
     ensures { λ _. ⌜ now (log .exit) ≡ put (w .at) (encode (w .number .0 + 1) (LG (imageOf (lastNumber w k) (sheetOf (pages (now (work .entry))) (recordOn (now (log .entry)) w) d)))) (now (log .entry)) ⌝ }
 {
     let at = w.begin + kind::LB_LONG;
-    let end = w.number.0 as usize - w.done + k as usize + 1;
+    let end = lacking::last_number(w, k);
     let page = draw::draw(work, &log[at..at + 16], d, LogNo(end as u32));
     writing::put_image(log, w.at, LogNo(w.number.0 + 1), d.page, &page);
 }

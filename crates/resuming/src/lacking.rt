@@ -55,6 +55,14 @@ fn same_images(work: &[u8], r: &[u8], x: Plan, n: LogNo, m: &[u8], k: u8) -> boo
     true
 }
 
+// LE's number where k pages are changed.
+pub fn last_number(w: Walk, k: u8) -> usize
+    requires { ⌜ w .done ≤ w .number .0 ⌝ }
+    ensures { λ r. ⌜ r ≡ lastNumber w k ⌝ }
+{
+    w.number.0 as usize - w.done + k as usize + 1
+}
+
 // Whether the images logged are the first pages that the plan x lists, with LE's number. Where no four bytes can bear that, they are not.
 fn agrees(work: &[u8], log: &[u8], w: Walk, x: Plan) -> bool
     requires { ⌜ (length (now work) ≡ 16384) × Unfinished (now log) w × Plans (now work) (recordOn (now log) w) x (sheets (drafted (pages (now work)) (recordOn (now log) w) x)) ⌝ }
@@ -66,13 +74,20 @@ fn agrees(work: &[u8], log: &[u8], w: Walk, x: Plan) -> bool
     if (x.count as usize) < w.done {
         return false;
     }
-    let end = w.number.0 as usize - w.done + x.count as usize + 1;
+    let end = last_number(w, x.count);
     if 4294967295 < end {
         return false;
     }
     let at = w.begin + kind::LB_LONG;
     let from = at + 16;
-    same_images(work, &log[at..at + 16], x, LogNo(end as u32), &log[from..], w.done as u8)
+    same_images(
+        work,
+        &log[at..at + 16],
+        x,
+        LogNo(end as u32),
+        &log[from..],
+        w.done as u8,
+    )
 }
 
 // The pages changed, or the reply that refuses them: 3, 8, 18 or 15, and 5 where an image logged is another.

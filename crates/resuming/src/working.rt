@@ -1,6 +1,6 @@
 // The pages that a put or a delete changes, worked out from all work pages: tests 3, 8, 18 or 15.
 ghost use mathlib.Core.Path.{_≡_};
-ghost use mathlib.Core.List.{List, []};
+ghost use mathlib.Core.List.{[]};
 ghost use Prim.Native.Nat.{ℕ};
 ghost use lib.ListN.{length, getD};
 ghost use Rattle.log.specs.Record.{Begin};

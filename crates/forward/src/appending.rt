@@ -12,12 +12,14 @@ use field::LogNo;
 use field::PageNo;
 use field::UnitNo;
 use log::kind;
+use log::opening;
 use log::scan::Walk;
 use log::source;
 use log::steps;
 use log::steps::Planned;
 use log::writing;
 use page::form;
+use resuming::carrying;
 use tree::well;
 use unit::apply;
 use unit::entry;
@@ -130,7 +132,7 @@ fn append_close(work: &mut [u8], log: &mut [u8], w: Walk, unit: UnitNo) -> u8
 }
 
 // The next step of a unit that tidies, by its kind.
-pub fn append_step(work: &mut [u8], log: &mut [u8], w: Walk) -> u8
+fn append_step(work: &mut [u8], log: &mut [u8], w: Walk) -> u8
     requires { ⌜ (length (now work) ≡ 16384) × (length (now log) ≡ 8192) × Tidies (now log) w ⌝ }
     ensures { λ r. ⌜ Goes (appendNext (now (work .entry)) (now (log .entry))) (now (work .entry)) (now (log .entry)) r (now (work .exit)) (now (log .exit)) ⌝ }
 {
@@ -147,4 +149,16 @@ pub fn append_step(work: &mut [u8], log: &mut [u8], w: Walk) -> u8
         } => append_point(work, log, w, base, old, new, other),
         Planned::Close { unit } => append_close(work, log, w, unit),
     }
+}
+
+// The next record of the open unit, which tidies or is a put or delete.
+pub fn append(work: &mut [u8], log: &mut [u8], w: Walk) -> u8
+    requires { ⌜ (length (now work) ≡ 16384) × (length (now log) ≡ 8192) × Opened (now log) w ⌝ }
+    ensures { λ r. ⌜ Goes (appendNext (now (work .entry)) (now (log .entry))) (now (work .entry)) (now (log .entry)) r (now (work .exit)) (now (log .exit)) ⌝ }
+{
+    let begin = w.begin;
+    if opening::saves(&log[begin..]) {
+        return carrying::append_saved(work, log, w);
+    }
+    append_step(work, log, w)
 }

@@ -2,5 +2,6 @@
 pub mod Stands
 pub mod Appends
 pub mod Grows
+pub mod Carries
 pub mod Saves
 pub mod Finish

@@ -54,23 +54,23 @@ need-went true q y s w l e = (refl, e)
 need-went false q y s w l e = absurd (stopped-not q s w l e)
 
 -- a chain that never stops with 0
-abbrev Speaks : Went → Type 0
+abbrev pub Speaks : Went → Type 0
 Speaks y = (q : ℕ) → y ≡ stopped q → q ≡ 0 → ⊥
 
-stop-speaks : (r : ℕ) → (r ≡ 0 → ⊥) → Speaks (stopped r)
+pub stop-speaks : (r : ℕ) → (r ≡ 0 → ⊥) → Speaks (stopped r)
 stop-speaks r h q e z = h (let i : r ≡ q = cc in i ∙ z)
 
-given-speaks : {A : Type 0} (o : Option A) (r : ℕ) (f : A → Went) → (r ≡ 0 → ⊥) → ((a : A) → Speaks (f a)) → Speaks (given o (stopped r) f)
+pub given-speaks : {A : Type 0} (o : Option A) (r : ℕ) (f : A → Went) → (r ≡ 0 → ⊥) → ((a : A) → Speaks (f a)) → Speaks (given o (stopped r) f)
 unfolding given
 given-speaks none r f h k = stop-speaks r h
 given-speaks (some a) r f h k = k a
 
-need-speaks : (b : Bool) (r : ℕ) (y : Went) → (r ≡ 0 → ⊥) → Speaks y → Speaks (need b (stopped r) y)
+pub need-speaks : (b : Bool) (r : ℕ) (y : Went) → (r ≡ 0 → ⊥) → Speaks y → Speaks (need b (stopped r) y)
 unfolding need
 need-speaks true r y h k = k
 need-speaks false r y h k = stop-speaks r h
 
-went-speaks : (s : State) (w l : List ℕ) → Speaks (went s w l)
+pub went-speaks : (s : State) (w l : List ℕ) → Speaks (went s w l)
 went-speaks s w l q e z = went-not q s w l e
 
 -- ---- what the tests have shown

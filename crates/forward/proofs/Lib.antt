@@ -5,3 +5,4 @@ pub mod Grows
 pub mod Carries
 pub mod Saves
 pub mod Finish
+pub mod Next

@@ -40,7 +40,7 @@ unfolding afterAll after
 done-all s [] h = h
 done-all s (r ∷ rs) h = done-all (after s r) rs (done-by r (s .number) (s .opened) h)
 
-done-end : (g : Log) → (shown (atEnd g)) .done ≤ (shown (atEnd g)) .number .0
+pub done-end : (g : Log) → (shown (atEnd g)) .done ≤ (shown (atEnd g)) .number .0
 unfolding shown atEnd first given
 done-end g = done-all (first (g .top)) (g .recs) (omega arith)
 

@@ -9,3 +9,4 @@ pub mod Halves
 pub mod Puts
 pub mod Deletes
 pub mod Resumes
+pub mod Replies

@@ -1,0 +1,121 @@
+-- The answers of begin put and begin delete, as laws over what the code has there. Assumes nothing.
+use Prim.Native.Nat.{ℕ, _+_, _*_, _≤_, _<_}
+use native.Mathlib.Omega.{arith}
+use mathlib.Core.Path.{_≡_, refl, sym, ap, _∙_}
+use mathlib.Core.Bool.{Bool, true, false, not}
+use mathlib.Core.List.{List, [], _∷_}
+use mathlib.Core.Option.{Option, some, none}
+use lib.ListN.{length, getD}
+use Rattle.field.specs.Test.{need, there}
+use Rattle.field.specs.Bytes.{put}
+use Rattle.field.proofs.Test.{need-true, need-false}
+use Rattle.log.specs.Record.{Begin, Rec, LB, begin, image, end, lengthOf, kindOf, carried, size, sizes, encode}
+use Rattle.log.specs.Log.{State, imagesOf}
+use Rattle.log.specs.Scan.{shown}
+use Rattle.log.specs.Table.{kinds, kindAt}
+use Rattle.log.specs.Write.{beginOf, saveOf}
+use Rattle.log.specs.declared.scan.Walk.{Walk}
+use Rattle.saving.specs.Rest.{Rest, refuses, lacks, restOf, resumed}
+use Rattle.resuming.specs.Lacking.{Lacks, Needs}
+use Rattle.store.specs.Calls.{Lent, lent, Left, left, refused, begunWith, savingAll, beginSave}
+use Rattle.store.proofs.Ending.{shown-at, shown-number, shown-unit}
+use Rattle.store.proofs.Replies.{refused-as}
+use Rattle.starting.proofs.Starts.{begun-room, begun-number, begun-unit, begun-begins}
+
+-- ---- past test 9
+
+module _ (d : Lent) (s : State) (g : Begin) where
+  abbrev rest : Rest
+  rest = restOf g (s .number + 1) [] (d .work)
+
+  save-open : there (s .opened) ≡ true → beginSave d s g ≡ refused 0 9 d
+  unfolding beginSave
+  save-open o = need-false _ (refused 0 9 d) _ (ap not o)
+
+  module _ (o : there (s .opened) ≡ false) where
+    save-refused : (r : ℕ) → rest ≡ refuses r → beginSave d s g ≡ refused 0 r d
+    unfolding beginSave savingAll
+    save-refused r e = need-true _ (refused 0 9 d) _ (ap not o) ∙ ap (savingAll d s g) e
+
+    save-with : (rs : List Rec) → rest ≡ lacks rs → beginSave d s g ≡ begunWith d s g (sizes rs) (length rs)
+    unfolding beginSave savingAll
+    save-with rs e = need-true _ (refused 0 9 d) _ (ap not o) ∙ ap (savingAll d s g) e
+
+-- ---- the answers of the code, at a log's end s with the numbers w
+
+module _ (used forced : ℕ) (work log bytes r : List ℕ) (w : Walk) (kind : ℕ) (s : State) (e : w ≡ shown s) where
+  abbrev given-to : Lent
+  given-to = lent used forced work [] log bytes
+
+  abbrev lb : Begin
+  lb = saveOf (s .unit + 1) kind r
+
+  abbrev meant : Left
+  meant = beginSave given-to s lb
+
+  opened-is : (b : Bool) → w .opened ≡ b → there (s .opened) ≡ b
+  unfolding shown
+  opened-is b o = sym (ap (λ (x : Walk). x .opened) e) ∙ o
+
+  at-is : w .at ≡ s .at
+  at-is = shown-at w s e
+
+  number-is : w .number .0 ≡ s .number
+  number-is = shown-number w s e
+
+  unit-next : lb .unit ≡ w .unit .0 + 1
+  unfolding saveOf beginOf
+  unit-next = ap (λ (x : ℕ). x + 1) (sym (shown-unit w s e))
+
+  module _ (v u f : ℕ) where
+    abbrev kept : Left
+    kept = left v [] (lent u f work [] log bytes)
+
+    pub put-open : (v ≡ 9) × (u ≡ used) × (f ≡ forced) → w .opened ≡ true → kept ≡ meant
+    put-open q o = refused-as given-to 9 v u f meant (save-open given-to s lb (opened-is true o)) q
+
+  module _ (shut : w .opened ≡ false) (reply many : ℕ)
+      (n : (g : Begin) (n : ℕ) → g .type ≡ kind → getD (g .saved) 0 [] ≡ r → Needs (resumed g n [] work) reply many) where
+    needs : Needs (restOf lb (s .number + 1) [] work) reply many
+    unfolding saveOf beginOf imagesOf
+    needs = n lb (s .number + 1) refl refl
+
+    pub put-refused : (v u f : ℕ) → (v ≡ reply) × (u ≡ used) × (f ≡ forced) → (reply ≡ 0 → ⊥) → left v [] (lent u f work [] log bytes) ≡ meant
+    put-refused v u f q z = refused-as given-to reply v u f meant (save-refused given-to s lb (opened-is false shut) reply (needs .refused z)) q
+
+    -- head is the LB's length, rest that of what follows
+    module _ (z : reply ≡ 0) (head rest : ℕ) (i : head ≡ lengthOf (kindAt 1) 1) (j : rest ≡ lengthOf image 1 * many + lengthOf end 0) where
+      all : Lacks (restOf lb (s .number + 1) [] work) (lengthOf image 1 * many + lengthOf end 0) (many + 1)
+      all = needs .lacked z
+
+      head-is : size (LB lb) ≡ head
+      unfolding size lengthOf kindOf carried saveOf beginOf kindAt kinds
+      head-is = sym i
+
+      begun-is : meant ≡ begunWith given-to s lb rest (many + 1)
+      begun-is = save-with given-to s lb (opened-is false shut) (all .recs) (all .are) ∙ rw (all .bytes, all .count, ← j)
+
+      module _ (v u f : ℕ) where
+        pub put-room : (v ≡ 6) × (u ≡ used) × (f ≡ forced) → 8192 < w .at + head + rest → left v [] (lent u f work [] log bytes) ≡ meant
+        put-room q h = refused-as given-to 6 v u f meant (begun-is ∙ begun-room given-to s lb rest (many + 1) (omega (arith, h, head-is, at-is))) q
+
+        module _ (h : w .at + head + rest ≤ 8192) where
+          pub put-number : (v ≡ 7) × (u ≡ used) × (f ≡ forced) → 4294967295 < w .number .0 + 1 + (many + 1) → left v [] (lent u f work [] log bytes) ≡ meant
+          put-number q m =
+              refused-as given-to 7 v u f meant
+              (begun-is ∙ begun-number given-to s lb rest (many + 1) (omega (arith, h, head-is, at-is)) (omega (arith, m, number-is))) q
+
+          pub put-last : (v ≡ 7) × (u ≡ used) × (f ≡ forced) → w .number .0 + 1 + (many + 1) ≤ 4294967295 → 4294967295 ≤ w .unit .0
+              → left v [] (lent u f work [] log bytes) ≡ meant
+          put-last q m l =
+              refused-as given-to 7 v u f meant
+              (begun-is ∙ begun-unit given-to s lb rest (many + 1) (omega (arith, h, head-is, at-is)) (omega (arith, m, number-is)) (omega (arith, l, unit-next))) q
+
+      pub put-begun : w .at + head + rest ≤ 8192 → w .number .0 + 1 + (many + 1) ≤ 4294967295 → w .unit .0 < 4294967295
+          → (l : List ℕ) → l ≡ put (w .at) (encode (w .number .0 + 1) (LB (saveOf (w .unit .0 + 1) kind r))) log
+          → left 0 [] (lent (w .at + head) forced work [] l bytes) ≡ meant
+      put-begun h m x l q =
+          rw (q, ← head-is, at-is, number-is, shown-unit w s e)
+          (sym
+          (begun-is
+          ∙ begun-begins given-to s lb rest (many + 1) (omega (arith, h, head-is, at-is)) (omega (arith, m, number-is)) (omega (arith, x, unit-next))))

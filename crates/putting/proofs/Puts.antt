@@ -7,17 +7,16 @@ use mathlib.Core.List.{List, [], _∷_}
 use mathlib.Core.Option.{Option, some, none}
 use lib.ListN.{length, getD}
 use Rattle.field.specs.Test.{need, there}
-use Rattle.field.specs.Bytes.{put}
+use Rattle.field.specs.Bytes.{put, zeroes, bytes4}
 use Rattle.field.proofs.Test.{need-true, need-false}
 use Rattle.log.specs.Record.{Begin, Rec, LB, begin, image, end, lengthOf, kindOf, carried, size, sizes, encode}
 use Rattle.log.specs.Log.{State, imagesOf}
 use Rattle.log.specs.Scan.{shown}
-use Rattle.log.specs.Table.{kinds, kindAt}
 use Rattle.log.specs.Write.{beginOf, saveOf}
 use Rattle.log.specs.declared.scan.Walk.{Walk}
 use Rattle.saving.specs.Rest.{Rest, refuses, lacks, restOf, resumed}
 use Rattle.resuming.specs.Lacking.{Lacks, Needs}
-use Rattle.store.specs.Calls.{Lent, lent, Left, left, refused, begunWith, savingAll, beginSave}
+use Rattle.store.specs.Calls.{Lent, lent, Left, left, refused, begunWith, deleting, savingAll, beginSave}
 use Rattle.store.proofs.Ending.{shown-at, shown-number, shown-unit}
 use Rattle.store.proofs.Replies.{refused-as}
 use Rattle.starting.proofs.Starts.{begun-room, begun-number, begun-unit, begun-begins}
@@ -25,19 +24,19 @@ use Rattle.starting.proofs.Starts.{begun-room, begun-number, begun-unit, begun-
 -- ---- past test 9
 
 module _ (d : Lent) (s : State) (g : Begin) where
-  abbrev rest : Rest
-  rest = restOf g (s .number + 1) [] (d .work)
+  abbrev lacked : Rest
+  lacked = restOf g (s .number + 1) [] (d .work)
 
   save-open : there (s .opened) ≡ true → beginSave d s g ≡ refused 0 9 d
   unfolding beginSave
   save-open o = need-false _ (refused 0 9 d) _ (ap not o)
 
   module _ (o : there (s .opened) ≡ false) where
-    save-refused : (r : ℕ) → rest ≡ refuses r → beginSave d s g ≡ refused 0 r d
+    save-refused : (r : ℕ) → lacked ≡ refuses r → beginSave d s g ≡ refused 0 r d
     unfolding beginSave savingAll
     save-refused r e = need-true _ (refused 0 9 d) _ (ap not o) ∙ ap (savingAll d s g) e
 
-    save-with : (rs : List Rec) → rest ≡ lacks rs → beginSave d s g ≡ begunWith d s g (sizes rs) (length rs)
+    save-with : (rs : List Rec) → lacked ≡ lacks rs → beginSave d s g ≡ begunWith d s g (sizes rs) (length rs)
     unfolding beginSave savingAll
     save-with rs e = need-true _ (refused 0 9 d) _ (ap not o) ∙ ap (savingAll d s g) e
 
@@ -83,23 +82,30 @@ module _ (used forced : ℕ) (work log bytes r : List ℕ) (w : Walk) (kind : �
     pub put-refused : (v u f : ℕ) → (v ≡ reply) × (u ≡ used) × (f ≡ forced) → (reply ≡ 0 → ⊥) → left v [] (lent u f work [] log bytes) ≡ meant
     put-refused v u f q z = refused-as given-to reply v u f meant (save-refused given-to s lb (opened-is false shut) reply (needs .refused z)) q
 
-    -- head is the LB's length, rest that of what follows
-    module _ (z : reply ≡ 0) (head rest : ℕ) (i : head ≡ lengthOf (kindAt 1) 1) (j : rest ≡ lengthOf image 1 * many + lengthOf end 0) where
+    module _ (z : reply ≡ 0) where
       all : Lacks (restOf lb (s .number + 1) [] work) (lengthOf image 1 * many + lengthOf end 0) (many + 1)
       all = needs .lacked z
 
-      head-is : size (LB lb) ≡ head
-      unfolding size lengthOf kindOf carried saveOf beginOf kindAt kinds
-      head-is = sym i
+      head-is : size (LB lb) ≡ 60
+      unfolding size lengthOf kindOf carried saveOf beginOf
+      head-is = refl
+
+      -- the bytes that follow the LB
+      abbrev rest : ℕ
+      rest = 272 * many + 16
+
+      rest-is : lengthOf image 1 * many + lengthOf end 0 ≡ rest
+      unfolding lengthOf
+      rest-is = refl
 
       begun-is : meant ≡ begunWith given-to s lb rest (many + 1)
-      begun-is = save-with given-to s lb (opened-is false shut) (all .recs) (all .are) ∙ rw (all .bytes, all .count, ← j)
+      begun-is = save-with given-to s lb (opened-is false shut) (all .recs) (all .are) ∙ rw (all .bytes, all .count, rest-is)
 
       module _ (v u f : ℕ) where
-        pub put-room : (v ≡ 6) × (u ≡ used) × (f ≡ forced) → 8192 < w .at + head + rest → left v [] (lent u f work [] log bytes) ≡ meant
+        pub put-room : (v ≡ 6) × (u ≡ used) × (f ≡ forced) → 8192 < w .at + 60 + rest → left v [] (lent u f work [] log bytes) ≡ meant
         put-room q h = refused-as given-to 6 v u f meant (begun-is ∙ begun-room given-to s lb rest (many + 1) (omega (arith, h, head-is, at-is))) q
 
-        module _ (h : w .at + head + rest ≤ 8192) where
+        module _ (h : w .at + 60 + rest ≤ 8192) where
           pub put-number : (v ≡ 7) × (u ≡ used) × (f ≡ forced) → 4294967295 < w .number .0 + 1 + (many + 1) → left v [] (lent u f work [] log bytes) ≡ meant
           put-number q m =
               refused-as given-to 7 v u f meant
@@ -111,11 +117,17 @@ module _ (used forced : ℕ) (work log bytes r : List ℕ) (w : Walk) (kind : �
               refused-as given-to 7 v u f meant
               (begun-is ∙ begun-unit given-to s lb rest (many + 1) (omega (arith, h, head-is, at-is)) (omega (arith, m, number-is)) (omega (arith, l, unit-next))) q
 
-      pub put-begun : w .at + head + rest ≤ 8192 → w .number .0 + 1 + (many + 1) ≤ 4294967295 → w .unit .0 < 4294967295
-          → (l : List ℕ) → l ≡ put (w .at) (encode (w .number .0 + 1) (LB (saveOf (w .unit .0 + 1) kind r))) log
-          → left 0 [] (lent (w .at + head) forced work [] l bytes) ≡ meant
-      put-begun h m x l q =
-          rw (q, ← head-is, at-is, number-is, shown-unit w s e)
+      pub put-begun : w .at + 60 + rest ≤ 8192 → w .number .0 + 1 + (many + 1) ≤ 4294967295 → w .unit .0 < 4294967295
+          → (at : ℕ) → at ≡ w .at + 60 → (l : List ℕ) → l ≡ put (w .at) (encode (w .number .0 + 1) (LB (saveOf (w .unit .0 + 1) kind r))) log
+          → left 0 [] (lent at forced work [] l bytes) ≡ meant
+      put-begun h m x at i l q =
+          rw (i, q, ← head-is, at-is, number-is, shown-unit w s e)
           (sym
           (begun-is
           ∙ begun-begins given-to s lb rest (many + 1) (omega (arith, h, head-is, at-is)) (omega (arith, m, number-is)) (omega (arith, x, unit-next))))
+
+-- ---- the record of a delete
+
+pub deleting-is! : (key : ℕ) (r : List ℕ) → r ≡ put 2 (bytes4 key) (114 ∷ 99 ∷ 0 ∷ 0 ∷ 0 ∷ 0 ∷ 0 ∷ 0 ∷ 0 ∷ 0 ∷ 0 ∷ 0 ∷ 0 ∷ 0 ∷ 0 ∷ 0 ∷ []) → r ≡ deleting key
+unfolding deleting put bytes4 zeroes
+deleting-is! key r e = e

@@ -42,9 +42,9 @@ fn begun(n: Numbers, work: &[u8], log: &mut [u8], w: Walk, kind: u8, r: &[u8]) -
     if x.reply != 0 {
         return known::kept(n, x.reply);
     }
-    let end = w.at + kind::size_of(kind::LB, 1);
+    let end = w.at + kind::LB_LONG + 16;
     let many = x.count as usize;
-    let rest = kind::size_of(kind::LG, 1) * many + kind::size_of(kind::LE, 0);
+    let rest = (kind::LG_LONG + 256) * many + kind::LE_LONG;
     if 8192 < end + rest {
         return known::kept(n, 6);
     }

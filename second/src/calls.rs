@@ -1,15 +1,14 @@
-//! The ten calls over lent buffers, and a walk of the range reader. Each runs
-//! its tests in the order that document 01 gives, and writes only after the
-//! last of them.
+//! The twelve calls over lent buffers, and a walk of the range reader. Each
+//! runs its tests in the order that the documents give, and writes only after
+//! the last of them.
 
 use crate::bytes::{get32, page_of, page_of_mut, Numbers, LOG_BYTES, PAGES_BYTES, PAGE_COUNT};
-use crate::log::{Log, Record, CHECK_BYTES};
+use crate::log::{Begin, Log, Record, Step, Type, CHECK_BYTES};
 use crate::page::{
     read_pages, Body, Entry, Page, Row, BASES, LEAVES, MOST_ENTRIES, MOST_ROWS, ROW_BYTES,
 };
-use crate::reply;
-use crate::tree::{self, Leaf};
-use crate::unit;
+use crate::tree::{self, read_tree};
+use crate::{reply, save, unit};
 
 fn number(result: Result<(), u8>) -> u8 {
     result.err().unwrap_or(reply::DONE)
@@ -37,13 +36,6 @@ fn read_log(numbers: &Numbers, log: &[u8]) -> Result<Log, u8> {
     let used = numbers.used as usize == read.end();
     let forced = read.number_at(numbers.forced).is_some();
     test(used && forced, reply::LOG).map(|()| read)
-}
-
-/// Tests 3 and 8 over all work pages.
-fn read_tree(work: &[u8]) -> Result<(Vec<Page>, Vec<Leaf>), u8> {
-    let pages = read_pages(work).ok_or(reply::FORM)?;
-    let leaves = tree::leaves(&pages).ok_or(reply::TREE)?;
-    Ok((pages, leaves))
 }
 
 /// Replaces the whole log by one check record.
@@ -154,19 +146,13 @@ struct Recovered {
 /// Recovery on copies, past its test 1.
 fn recovered(store: &[u8], log: &[u8]) -> Result<Recovered, u8> {
     let mut read = Log::read(log).ok_or(reply::LOG)?;
-    let mut pages = read_pages(store).ok_or(reply::FORM)?;
+    let pages = read_pages(store).ok_or(reply::FORM)?;
     let behind = pages.iter().all(|page| page.number <= read.last());
     test(behind, reply::AHEAD)?;
     let mut work = store.to_vec();
     let mut bytes = log.to_vec();
     for placed in &read.records {
-        if let Some(page) = placed.record.changed() {
-            let stamp = &mut pages[page as usize].number;
-            if placed.number > *stamp {
-                *stamp = placed.number;
-                unit::apply(&read, &mut work, placed.number, &placed.record)?;
-            }
-        }
+        unit::repeat(&read, &mut work, placed)?;
     }
     let found = read.end();
     let mut count = 0;
@@ -219,8 +205,53 @@ fn begun(
         None => unit::choose_order(&leaves, unit),
     };
     let chosen = chosen.ok_or(reply::NOTHING)?;
-    unit::test_begin(&read, work, &chosen)?;
+    unit::test_begin(&read, unit::whole(&chosen, work))?;
     read.append(log, Record::Begin(chosen));
+    numbers.used = read.end() as u32;
+    Ok(())
+}
+
+/// Begins a put of this record, of any length.
+pub fn put(numbers: &mut Numbers, work: &mut [u8], log: &mut [u8], record: &[u8]) -> u8 {
+    number(put_begun(numbers, work, log, record))
+}
+
+fn put_begun(numbers: &mut Numbers, work: &[u8], log: &mut [u8], record: &[u8]) -> Result<(), u8> {
+    test_lengths(&[work], log)?;
+    let read = read_log(numbers, log)?;
+    test(record.len() == ROW_BYTES, reply::RANGE)?;
+    let row = Row::read(record).ok_or(reply::RECORDS)?;
+    save_begun(read, numbers, work, log, Type::Put, row)
+}
+
+/// Begins a delete of the record with this key.
+pub fn delete(numbers: &mut Numbers, work: &mut [u8], log: &mut [u8], key: u32) -> u8 {
+    number(delete_begun(numbers, work, log, key))
+}
+
+fn delete_begun(numbers: &mut Numbers, work: &[u8], log: &mut [u8], key: u32) -> Result<(), u8> {
+    test_lengths(&[work], log)?;
+    let read = read_log(numbers, log)?;
+    let value = [0; 10];
+    save_begun(read, numbers, work, log, Type::Delete, Row { key, value })
+}
+
+/// Both of them, past the tests of the log and of the record.
+fn save_begun(
+    mut read: Log,
+    numbers: &mut Numbers,
+    work: &[u8],
+    log: &mut [u8],
+    kind: Type,
+    row: Row,
+) -> Result<(), u8> {
+    test(read.open.is_none(), reply::OPEN)?;
+    let (pages, _) = read_tree(work)?;
+    // A unit number that cannot be is never written: test 7 comes last.
+    let begin = Begin::of_row(read.unit.wrapping_add(1), kind, row);
+    let changes = save::changes(&pages, &begin)?;
+    unit::test_begin(&read, save::whole(&changes))?;
+    read.append(log, Record::Begin(begin));
     numbers.used = read.end() as u32;
     Ok(())
 }
@@ -234,7 +265,9 @@ fn stepped(numbers: &mut Numbers, work: &mut [u8], log: &mut [u8]) -> Result<(),
     test_lengths(&[work], log)?;
     let mut read = read_log(numbers, log)?;
     let open = read.open.as_ref().ok_or(reply::CLOSED)?;
-    if let Some(page) = open.steps[open.done].changed() {
+    // A put or a delete tests all pages, as it works out what to change.
+    let step = open.remaining().first();
+    if let Some(page) = step.and_then(Step::changed) {
         let formed = Page::read(page, page_of(work, page)).is_some();
         test(formed, reply::FORM)?;
     }

@@ -4,10 +4,10 @@
 use crate::bytes::{get16, get32, page_of, page_of_mut, put16, put32};
 use crate::bytes::{LOG_BYTES, PAGES_BYTES, PAGE_BYTES, PAGE_COUNT};
 use crate::chance::Chance;
-use crate::log::Log;
-use crate::page::{Body, LEAVES};
-use crate::runs::random_shape;
-use crate::state::{put_page, Call, State};
+use crate::log::{Log, Record};
+use crate::page::{Body, LEAVES, ROW_BYTES};
+use crate::runs::{crowded_shape, random_shape};
+use crate::state::{put_page, record_bytes, row, Call, State};
 use std::ops::Range;
 
 const LAST: u32 = u32::MAX;
@@ -15,7 +15,10 @@ const MARKS: [&[u8; 2]; 4] = [b"pr", b"pb", b"pl", b"pe"];
 
 /// A small state after some random calls.
 pub fn random_state(chance: &mut Chance) -> State {
-    let tree = random_shape(chance);
+    let tree = match chance.one_in(8) {
+        true => crowded_shape(chance),
+        false => random_shape(chance),
+    };
     let number = match chance.within(1, 4) {
         1 => LAST - chance.within(0, 30) as u32,
         _ => chance.within(0, 50) as u32,
@@ -31,14 +34,19 @@ pub fn random_state(chance: &mut Chance) -> State {
         }
     }
     for _ in 0..chance.within(0, 20) {
-        let call = match chance.within(1, 6) {
+        let key = chance.within(0, 66) as u32;
+        let call = match chance.within(1, 8) {
             1 => Call::BeginCompact { fill: 0 },
             2 => Call::BeginOrder,
             3 => Call::Force,
+            4 => Call::Put,
+            5 => Call::Delete { key },
             _ => Call::Step,
         };
+        state = state.lending(row(key));
         call.on(&mut state);
     }
+    state.bytes.clear();
     if chance.one_in(3) {
         Call::Force.on(&mut state);
         for page in 0..PAGE_COUNT as u32 {
@@ -48,6 +56,29 @@ pub fn random_state(chance: &mut Chance) -> State {
     state
 }
 
+/// What a call is lent beside the buffers: a put's record, nearly always
+/// right; for any other call some records, which are a room too.
+pub fn some_bytes(chance: &mut Chance, call: &Call) -> Vec<u8> {
+    if *call != Call::Put {
+        let count = chance.within(0, 4) as u32;
+        return record_bytes(&(0..count).collect::<Vec<u32>>());
+    }
+    let key = match chance.within(1, 6) {
+        1 => chance.draw() as u32,
+        2 => LAST,
+        _ => chance.within(0, 66) as u32,
+    };
+    let mut bytes = record_bytes(&[key]);
+    chance.fill(&mut bytes[6..]);
+    match chance.within(1, 20) {
+        1 => bytes.resize(chance.within(0, 64) as usize, 0),
+        2 => bytes[chance.within(0, 1) as usize] ^= 1 << chance.within(0, 7),
+        3 => bytes = bytes.repeat(2),
+        _ => {}
+    }
+    bytes
+}
+
 /// Any call with any arguments, those that write units more often.
 pub fn any_call(chance: &mut Chance) -> Call {
     let number = match chance.within(1, 3) {
@@ -55,7 +86,7 @@ pub fn any_call(chance: &mut Chance) -> Call {
         _ => chance.within(0, 66) as u32,
     };
     let other = chance.within(0, 66) as u32;
-    match chance.within(1, 17) {
+    match chance.within(1, 21) {
         1 => Call::Build {
             f: number,
             g: other,
@@ -71,6 +102,8 @@ pub fn any_call(chance: &mut Chance) -> Call {
         },
         15 => Call::Find { key: number },
         16 => Call::Walk { key: number },
+        17..=18 => Call::Put,
+        19..=20 => Call::Delete { key: other },
         _ => Call::List {
             low: number,
             high: other,
@@ -90,7 +123,8 @@ pub fn harm(chance: &mut Chance, state: &mut State) {
             harm_pages(chance, &mut state.work);
             state.store.clone_from(&state.work);
         }
-        6..=7 => harm_log(chance, state),
+        6 => harm_log(chance, state),
+        7 => harm_image(chance, state),
         8 => harm_numbers(chance, state),
         9 => harm_length(chance, state),
         _ => chance.fill(&mut state.work),
@@ -223,6 +257,42 @@ pub fn harm_log(chance: &mut Chance, state: &mut State) {
         }
         12 => chance.fill(bytes),
         _ => bytes[one].fill(0),
+    }
+}
+
+/// Harms an image of a put or a delete, so that it stays in page form as a
+/// rule: its number, its page, a record's value, or a whole page of the work
+/// pages in its stead. Where the log has none, the log is harmed.
+fn harm_image(chance: &mut Chance, state: &mut State) {
+    let log = Log::read(&state.log);
+    let records = log.map_or(Vec::new(), |log| log.records);
+    let images: Vec<usize> = records
+        .windows(2)
+        .filter(|two| matches!(two[1].record, Record::Image { .. }))
+        .map(|two| two[0].end)
+        .collect();
+    let Some(last) = (images.len() as u64).checked_sub(1) else {
+        return harm_log(chance, state);
+    };
+    let start = images[chance.within(0, last) as usize];
+    let (page, number) = (start + 12, start + 16 + 4);
+    match chance.within(1, 5) {
+        1 => {
+            let now = get32(&state.log, number);
+            put32(&mut state.log, number, near(chance, now));
+        }
+        2 => {
+            let other = chance.within(0, PAGE_COUNT as u64) as u16;
+            put16(&mut state.log, page, other);
+        }
+        3 => {
+            let now = get32(&state.log, number);
+            let place = get16(&state.log, page);
+            let bytes = page_of(&state.work, place).to_vec();
+            state.log[start + 16..start + 16 + PAGE_BYTES].copy_from_slice(&bytes);
+            put32(&mut state.log, number, now);
+        }
+        _ => state.log[start + 32 + ROW_BYTES - 1] ^= 1,
     }
 }
 

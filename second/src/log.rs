@@ -2,27 +2,74 @@
 //! gives, and reading a whole log record by record. A `Log` is always one in
 //! form.
 
-use crate::bytes::{all_zero, get16, get32, put16, put32, LOG_BYTES};
-use crate::page::{read_rows, Row, BASES, LEAVES, MOST_ROWS, ROW_BYTES};
+use crate::bytes::{all_zero, get16, get32, put16, put32, LOG_BYTES, PAGE_COUNT};
+use crate::page::{read_rows, Page, Row, BASES, LEAVES, MOST_ROWS, ROW_BYTES};
 
 const HEADER: usize = 12;
 pub const CHECK_BYTES: usize = 24;
+/// A begin record's bytes before the record that a put or a delete carries.
 pub const BEGIN_BYTES: usize = 44;
 /// An out record's bytes before its records.
 pub const OUT_BYTES: usize = 20;
 pub const IN_BYTES: usize = 24;
 pub const MODIFY_BYTES: usize = 28;
+pub const IMAGE_BYTES: usize = 272;
 pub const END_BYTES: usize = 16;
+
+/// A kind of log record.
+struct Kind {
+    mark: &'static [u8; 2],
+    /// Its whole length, without the records that it carries.
+    length: usize,
+    /// Bytes of each record that it carries, 0 where it carries none.
+    carried: usize,
+}
+
+/// The table of record kinds: all lengths, written and read, come from it.
+const KINDS: [Kind; 7] = [
+    kind(b"LC", CHECK_BYTES, 0),
+    kind(b"LB", BEGIN_BYTES, ROW_BYTES),
+    kind(b"LO", OUT_BYTES, ROW_BYTES),
+    kind(b"LI", IN_BYTES, 0),
+    kind(b"LM", MODIFY_BYTES, 0),
+    kind(b"LG", IMAGE_BYTES, 0),
+    kind(b"LE", END_BYTES, 0),
+];
+
+const fn kind(mark: &'static [u8; 2], length: usize, carried: usize) -> Kind {
+    Kind {
+        mark,
+        length,
+        carried,
+    }
+}
+
+impl Kind {
+    fn of(mark: &[u8]) -> Option<&'static Kind> {
+        KINDS.iter().find(|kind| kind.mark == mark)
+    }
+
+    /// How many records a record of this kind and length carries.
+    fn rows_in(&self, length: usize) -> Option<usize> {
+        let more = length.checked_sub(self.length)?;
+        match self.carried {
+            0 => (more == 0).then_some(0),
+            each => more.is_multiple_of(each).then_some(more / each),
+        }
+    }
+}
 
 const MOST_BASES: usize = 2;
 const MOST_LEAVES: usize = 8;
 
-/// The three types of a unit, by their number in the begin record.
+/// The types of a unit, by their number in the begin record.
 #[derive(Clone, Copy, PartialEq, Eq, Debug)]
 pub enum Type {
     Compact = 1,
     Swap = 2,
     Move = 3,
+    Put = 4,
+    Delete = 5,
 }
 
 /// The body of a begin record: all that a unit is going to do.
@@ -33,8 +80,10 @@ pub struct Begin {
     pub fill: u8,
     pub bases: Vec<u16>,
     pub leaves: Vec<u16>,
-    /// 0 for a swap.
+    /// 0 for a swap, a put and a delete.
     pub destination: u16,
+    /// The record that a put or a delete carries, a delete's without a value.
+    pub row: Option<Row>,
 }
 
 /// One step after the begin record, as the begin record gives it.
@@ -74,24 +123,31 @@ impl Step {
             Step::End => None,
         }
     }
-
-    /// The mark of the record that the step appends.
-    pub fn mark(&self) -> &'static str {
-        match self {
-            Step::Out { .. } => "LO",
-            Step::In { .. } => "LI",
-            Step::Point { .. } | Step::Remove { .. } => "LM",
-            Step::End => "LE",
-        }
-    }
 }
 
 impl Begin {
-    /// The steps of the unit, in order, without the begin record itself.
+    /// The begin record of a put or a delete: all page fields are zero.
+    pub fn of_row(unit: u32, kind: Type, row: Row) -> Begin {
+        Begin {
+            unit,
+            kind,
+            fill: 0,
+            bases: Vec::new(),
+            leaves: Vec::new(),
+            destination: 0,
+            row: Some(row),
+        }
+    }
+
+    /// The steps of the unit, in order, without the begin record itself; none
+    /// for a put or a delete, whose steps follow from the pages.
     pub fn steps(&self) -> Vec<Step> {
         let mut steps = Vec::new();
-        let base = self.bases[0];
+        let Some(&base) = self.bases.first() else {
+            return steps;
+        };
         match self.kind {
+            Type::Put | Type::Delete => return steps,
             Type::Compact => {
                 let dest = self.destination;
                 for &org in self.leaves.iter().filter(|&&leaf| leaf != dest) {
@@ -165,8 +221,12 @@ impl Begin {
             && distinct(&self.leaves);
         let (bases, leaves) = (self.bases.len(), self.leaves.len());
         let to_leaf = LEAVES.contains(&self.destination);
+        let no_pages = (bases, leaves, self.fill, self.destination) == (0, 0, 0, 0);
         listed
             && match self.kind {
+                Type::Put => no_pages && self.row.is_some(),
+                Type::Delete => no_pages && self.row.is_some_and(|row| all_zero(&row.value)),
+                _ if self.row.is_some() => false,
                 Type::Compact => {
                     bases == 1
                         && (2..=MOST_LEAVES).contains(&leaves)
@@ -217,34 +277,48 @@ pub enum Record {
         old_key: u32,
         new_key: u32,
     },
+    /// A whole page as its put or delete is going to leave it.
+    Image {
+        page: u16,
+        image: Page,
+    },
     End {
         unit: u32,
     },
 }
 
 impl Record {
-    /// The page that the record changes.
+    /// The page that the record changes; the end of a put or a delete changes
+    /// the pages of its images.
     pub fn changed(&self) -> Option<u16> {
         match *self {
             Record::Out { org, .. } => Some(org),
             Record::In { dest, .. } => Some(dest),
             Record::Modify { base, .. } => Some(base),
-            Record::Check { .. } | Record::Begin(_) | Record::End { .. } => None,
+            _ => None,
+        }
+    }
+
+    /// The record's kind in the table, and how many records it carries.
+    fn kind(&self) -> (&'static Kind, usize) {
+        let [check, begin, out, into, modify, image, end] = &KINDS;
+        match self {
+            Record::Check { .. } => (check, 0),
+            Record::Begin(body) => (begin, body.row.iter().len()),
+            Record::Out { rows, .. } => (out, rows.len()),
+            Record::In { .. } => (into, 0),
+            Record::Modify { .. } => (modify, 0),
+            Record::Image { .. } => (image, 0),
+            Record::End { .. } => (end, 0),
         }
     }
 
     /// The record's bytes under this log number.
     pub fn write(&self, number: u32) -> Vec<u8> {
-        let (mark, length) = match self {
-            Record::Check { .. } => (b"LC", CHECK_BYTES),
-            Record::Begin(_) => (b"LB", BEGIN_BYTES),
-            Record::Out { rows, .. } => (b"LO", OUT_BYTES + ROW_BYTES * rows.len()),
-            Record::In { .. } => (b"LI", IN_BYTES),
-            Record::Modify { .. } => (b"LM", MODIFY_BYTES),
-            Record::End { .. } => (b"LE", END_BYTES),
-        };
+        let (kind, rows) = self.kind();
+        let length = kind.length + kind.carried * rows;
         let mut bytes = vec![0; length];
-        bytes[..2].copy_from_slice(mark);
+        bytes[..2].copy_from_slice(kind.mark);
         put16(&mut bytes, 2, length as u16);
         put32(&mut bytes, 4, number);
         if !matches!(self, Record::Check { .. } | Record::Begin(_)) {
@@ -270,6 +344,9 @@ impl Record {
                     put16(body, 12 + 2 * i, page);
                 }
                 put16(body, 28, begin.destination);
+                if let Some(row) = &begin.row {
+                    row.write(&mut body[32..]);
+                }
             }
             Record::Out { org, dest, rows } => {
                 put16(body, 0, *org);
@@ -303,6 +380,10 @@ impl Record {
                 put32(body, 8, *old_key);
                 put32(body, 12, *new_key);
             }
+            Record::Image { page, image } => {
+                put16(body, 0, *page);
+                body[4..].copy_from_slice(&image.write());
+            }
             Record::End { unit } => put32(body, 0, *unit),
         }
         bytes
@@ -330,36 +411,45 @@ fn read_record(rest: &[u8]) -> Option<(Header, Record)> {
     if header.length < HEADER || header.length > rest.len() {
         return None;
     }
+    let kind = Kind::of(&rest[..2])?;
+    let rows = kind.rows_in(header.length)?;
     let body = &rest[HEADER..header.length];
-    let record = match (&rest[..2], header.length) {
-        (b"LC", CHECK_BYTES) => read_check(body)?,
-        (b"LB", BEGIN_BYTES) => Record::Begin(read_begin(body)?),
-        (b"LO", OUT_BYTES..) => {
-            let count = get16(body, 4) as usize;
-            let fits = header.length == OUT_BYTES + ROW_BYTES * count;
-            if !fits || !(1..=MOST_ROWS).contains(&count) || !all_zero(&body[6..8]) {
+    let record = match kind.mark {
+        b"LC" => read_check(body)?,
+        b"LB" => Record::Begin(read_begin(body, rows)?),
+        b"LO" => {
+            let counted = get16(body, 4) as usize == rows;
+            if !counted || !(1..=MOST_ROWS).contains(&rows) || !all_zero(&body[6..8]) {
                 return None;
             }
             Record::Out {
                 org: get16(body, 0),
                 dest: get16(body, 2),
-                rows: read_rows(&body[8..], count)?,
+                rows: read_rows(&body[8..], rows)?,
             }
         }
-        (b"LI", IN_BYTES) if all_zero(&body[6..8]) => Record::In {
+        b"LI" if all_zero(&body[6..8]) => Record::In {
             org: get16(body, 0),
             dest: get16(body, 2),
             count: get16(body, 4),
             out: get32(body, 8),
         },
-        (b"LM", MODIFY_BYTES) if all_zero(&body[6..8]) => Record::Modify {
+        b"LM" if all_zero(&body[6..8]) => Record::Modify {
             base: get16(body, 0),
             old: get16(body, 2),
             new: get16(body, 4),
             old_key: get32(body, 8),
             new_key: get32(body, 12),
         },
-        (b"LE", END_BYTES) => Record::End {
+        b"LG" if all_zero(&body[2..4]) => {
+            let page = get16(body, 0);
+            if page as usize >= PAGE_COUNT {
+                return None;
+            }
+            let image = Page::read(page, &body[4..])?;
+            Record::Image { page, image }
+        }
+        b"LE" => Record::End {
             unit: get32(body, 0),
         },
         _ => return None,
@@ -378,11 +468,19 @@ fn read_check(body: &[u8]) -> Option<Record> {
     all_zero(&body[5..8]).then_some(Record::Check { unit, lk })
 }
 
-fn read_begin(body: &[u8]) -> Option<Begin> {
+/// A begin record that carries so many records.
+fn read_begin(body: &[u8], rows: usize) -> Option<Begin> {
     let kind = match body[4] {
         1 => Type::Compact,
         2 => Type::Swap,
         3 => Type::Move,
+        4 => Type::Put,
+        5 => Type::Delete,
+        _ => return None,
+    };
+    let row = match rows {
+        0 => None,
+        1 => Some(Row::read(&body[32..])?),
         _ => return None,
     };
     let (bases, leaves) = (body[6] as usize, body[7] as usize);
@@ -400,6 +498,7 @@ fn read_begin(body: &[u8]) -> Option<Begin> {
         bases: (0..bases).map(|i| get16(body, 8 + 2 * i)).collect(),
         leaves: (0..leaves).map(|i| get16(body, 12 + 2 * i)).collect(),
         destination: get16(body, 28),
+        row,
     };
     begin.formed().then_some(begin)
 }
@@ -416,15 +515,16 @@ pub struct Placed {
 #[derive(Clone, Debug)]
 pub struct Open {
     pub begin: Begin,
+    /// The steps that the begin record gives: none for a put or a delete.
     pub steps: Vec<Step>,
-    /// How many of the steps the log holds.
+    /// How many records of the unit the log holds after the begin record.
     pub done: usize,
 }
 
 impl Open {
-    /// The steps that the log does not hold yet.
+    /// The steps that the begin record gives and the log does not hold yet.
     pub fn remaining(&self) -> &[Step] {
-        &self.steps[self.done..]
+        self.steps.get(self.done..).unwrap_or_default()
     }
 }
 
@@ -500,6 +600,30 @@ impl Log {
         }
     }
 
+    /// The images of the put or delete that the record with this number ends.
+    pub fn images_of(&self, number: u32) -> impl Iterator<Item = (u16, &Page)> {
+        let at = number.saturating_sub(self.records[0].number) as usize;
+        self.images_before(at.min(self.records.len()))
+    }
+
+    /// The images that the open put or delete holds.
+    pub fn open_images(&self) -> impl Iterator<Item = (u16, &Page)> {
+        self.images_before(self.records.len())
+    }
+
+    /// The images right before place `at` of the records, each with its page.
+    fn images_before(&self, at: usize) -> impl Iterator<Item = (u16, &Page)> {
+        let before = &self.records[..at];
+        let is_image = |placed: &Placed| matches!(placed.record, Record::Image { .. });
+        let from = before.iter().rposition(|placed| !is_image(placed));
+        before[from.map_or(0, |at| at + 1)..]
+            .iter()
+            .filter_map(|placed| match &placed.record {
+                Record::Image { page, image } => Some((*page, image)),
+                _ => None,
+            })
+    }
+
     /// The record that step `step` of the open unit has written.
     pub fn of_step(&self, step: usize) -> Option<&Placed> {
         let open = self.open.as_ref().filter(|open| step < open.done)?;
@@ -529,7 +653,10 @@ impl Log {
             }
             (Some(open), _) => {
                 header.previous as u64 + 1 == header.number as u64
-                    && self.follows(open.steps[open.done], record)
+                    && match open.begin.row {
+                        Some(_) => self.follows_images(header.number, record),
+                        None => self.follows(open.steps[open.done], record),
+                    }
             }
             (None, _) => false,
         }
@@ -599,6 +726,22 @@ impl Log {
                 },
             ) => base == *b && old == *o && *new == 0 && *new_key == 0,
             (Step::End, Record::End { unit }) => *unit == self.unit,
+            _ => false,
+        }
+    }
+
+    /// Whether the record may stand under this number in the open put or
+    /// delete: images whose pages ascend, then the end, whose number all of
+    /// them bear.
+    fn follows_images(&self, number: u32, record: &Record) -> bool {
+        let mut images = self.open_images().peekable();
+        match record {
+            Record::Image { page, .. } => images.all(|(before, _)| before < *page),
+            Record::End { unit } => {
+                *unit == self.unit
+                    && images.peek().is_some()
+                    && images.all(|(_, image)| image.number == number)
+            }
             _ => false,
         }
     }

@@ -1,6 +1,6 @@
 //! The programs: `second listing`, `second sample`, `second runs`, `second
-//! vectors`, `second bench`, `second drive`, `second measures` and `second
-//! tidied`.
+//! vectors`, `second bench`, `second drive`, `second measures`, `second
+//! tidied` and `second saved`.
 
 use second::drive::{drive, drive_listing, sample, Plan, ALL_CALLS, READING_CALLS};
 use second::state::Call;
@@ -19,7 +19,8 @@ second drive [--reading] [--calls N] [--seed S] PROGRAM [ARGS..]
 second drive --listing PROGRAM [ARGS..]
                           compares a program with the listing, image by image
 second measures PLACE     writes pairs of scripts that differ in one call
-second tidied [--script]  says how much a whole tidying writes";
+second tidied [--script]  says how much a whole tidying writes
+second saved              says how much puts and deletes write";
 
 /// Runs that `second runs` makes where no count is given.
 const USUAL_RUNS: u64 = 20_000;
@@ -37,6 +38,7 @@ fn main() -> ExitCode {
         }
         ["tidied"] => write_out(format!("{}\n", measures::tidied().0).as_bytes()),
         ["tidied", "--script"] => write_out(&measures::tidied().1),
+        ["saved"] => write_out(format!("{}\n", measures::saved()).as_bytes()),
         ["bench"] => serve(&Call::on),
         ["bench", "--fault", name] => serve_fault(name),
         ["drive", "--listing", ref words @ ..] if !words.is_empty() => {
@@ -66,7 +68,7 @@ fn serve(program: &runs::Program) -> Result<(), String> {
 }
 
 fn serve_fault(name: &str) -> Result<(), String> {
-    let names: Vec<&str> = faults::FAULTS.iter().map(|fault| fault.name).collect();
+    let names: Vec<&str> = faults::all().map(|fault| fault.name).collect();
     match faults::fault(name) {
         Some(program) => serve(program),
         None => Err(format!("faults: {}", names.join(" "))),

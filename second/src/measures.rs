@@ -1,20 +1,21 @@
 //! What is measured of a bench: pairs of scripts that differ in one call, so
-//! that the call's instructions are the difference; and how much a whole
-//! tidying writes.
+//! that the call's instructions are the difference; how much a whole tidying
+//! writes; and what puts and deletes write.
 //!
 //! Two trees stand on the chip in falling order: the largest, 840 records in
 //! 56 full leaves, and the same with 400 of its records left, drawn at random.
 //! A short log has its check record alone. A log that is nearly full has whole
-//! units, so many that the next does not fit; nothing of them is flushed.
+//! units, so many that the next does not fit; nothing of them is flushed. For
+//! puts and deletes it has moves of page 8.
 
 use crate::bench::Script;
-use crate::bytes::{PAGE_BYTES, PAGE_COUNT};
+use crate::bytes::{get32, LOG_BYTES, PAGE_BYTES, PAGE_COUNT};
 use crate::chance::Chance;
 use crate::drive::LARGEST_UNIT;
 use crate::log::CHECK_BYTES;
-use crate::page::{LEAVES, MOST_ROWS};
+use crate::page::{Row, LEAVES, MOST_ROWS, ROW_BYTES};
 use crate::reply;
-use crate::state::{record_bytes, shape, BaseShape, Call, LeafShape, State};
+use crate::state::{record_bytes, row_bytes, shape, BaseShape, Call, LeafShape, ShortBase, State};
 use std::fmt;
 use std::io;
 use std::path::Path;
@@ -132,7 +133,9 @@ fn measures() -> Vec<Measure> {
         add("begin_compact", "nearly full", &filled, compact);
         for (log, state, fresh) in [("short", &start, &start), ("nearly full", &full, &last)] {
             add("begin_order", log, fresh, Call::BeginOrder);
-            for (name, state) in steps_of(fresh) {
+            let mut begun = fresh.clone();
+            begin_any(&mut begun);
+            for (name, state) in steps_of(begun) {
                 add(&name, log, &state, Call::Step);
             }
             add("force", log, state, Call::Force);
@@ -159,28 +162,107 @@ fn measures() -> Vec<Measure> {
                 Call::Recover,
             );
         }
+        for (log, state) in [("short", &start), ("nearly full", &filled)] {
+            for (name, state, call) in saves_on(state) {
+                add(&name, log, &state, call);
+            }
+        }
+        let puts = full_of_puts(&start);
+        add("find", "full of puts", &puts, Call::Find { key: 4200 });
+        add("recover", "full of puts", &puts, Call::Recover);
     }
     all.push(Measure {
         name: "recover, the largest unit half done, 15 records, log short".to_string(),
         state: half_done(&State::made(&shape(LARGEST_UNIT), 1, 0, None)),
         call: Call::Recover,
     });
+    all.extend(split_measures());
     all
 }
 
-/// The unit that begins here before each kind of step comes first.
-fn steps_of(fresh: &State) -> Vec<(String, State)> {
-    let mut state = fresh.clone();
+/// A put that splits one of 55 full leaves.
+fn split_measures() -> Vec<Measure> {
+    let mut tree = falling(RECORDS);
+    tree[0].leaves.pop();
+    let split = State::made(&tree, 1, 0, None).lending(some_row(15));
+    let mut open = split.clone();
+    open.done(Call::Put);
+    let steps = steps_of(open);
+    let steps = steps.into_iter().map(|(step, state)| {
+        let name = format!("put that splits, {step}");
+        (name, state, Call::Step)
+    });
+    std::iter::once(("put that splits".to_string(), split, Call::Put))
+        .chain(steps)
+        .map(|(name, state, call)| Measure {
+            name: format!("{name}, 825 records, log short"),
+            state,
+            call,
+        })
+        .collect()
+}
+
+/// The open unit before each kind of step comes first, each named by the mark
+/// of the record that the step appends.
+fn steps_of(mut state: State) -> Vec<(String, State)> {
     let mut kinds: Vec<(String, State)> = Vec::new();
-    begin_any(&mut state);
-    while let Some(open) = state.read_log().open {
-        let name = format!("step {}", open.remaining()[0].mark());
-        if kinds.iter().all(|(kind, _)| *kind != name) {
-            kinds.push((name, state.clone()));
-        }
+    while state.read_log().open.is_some() {
+        let before = state.clone();
         state.done(Call::Step);
+        let at = before.numbers.used as usize;
+        let name = format!("step {}", String::from_utf8_lossy(&state.log[at..at + 2]));
+        if kinds.iter().all(|(kind, _)| *kind != name) {
+            kinds.push((name, before));
+        }
     }
     kinds
+}
+
+/// A record with a value of its own.
+fn some_row(key: u32) -> Row {
+    let value = *b"some value";
+    Row { key, value }
+}
+
+/// The first key from 4,200 on.
+fn middle_key(state: &State) -> u32 {
+    let mut listed = state.clone();
+    listed.set_check(1, 0, None);
+    listed.bytes = vec![0; ROW_BYTES];
+    listed.done(Call::List {
+        low: 4200,
+        high: u32::MAX,
+    });
+    get32(&listed.bytes, 2)
+}
+
+/// Puts and deletes in the midst of this tree, and the steps of the put that
+/// replaces.
+fn saves_on(state: &State) -> Vec<(String, State, Call)> {
+    let key = middle_key(state);
+    let replaces = state.lending(some_row(key));
+    let adds = state.lending(some_row(key + 1));
+    let mut open = replaces.clone();
+    open.done(Call::Put);
+    let mut saves = vec![
+        ("put that replaces".to_string(), replaces, Call::Put),
+        ("put that adds".to_string(), adds, Call::Put),
+        ("delete".to_string(), state.clone(), Call::Delete { key }),
+    ];
+    for (step, state) in steps_of(open) {
+        saves.push((format!("put that replaces, {step}"), state, Call::Step));
+    }
+    saves
+}
+
+/// The same tree with a log full of puts that replace one record, nothing of
+/// them flushed.
+fn full_of_puts(state: &State) -> State {
+    let mut state = state.lending(some_row(middle_key(state)));
+    while Call::Put.on(&mut state).reply == reply::DONE {
+        state.finish();
+    }
+    state
 }
 
 /// The unit that begins here with half of its records, nothing flushed.
@@ -209,11 +291,7 @@ pub struct Written {
 /// end, it is forced, the pages that differ are flushed, and a checkpoint is
 /// made. Returns the script too, with a dump at its end.
 pub fn tidied() -> (Written, Vec<u8>) {
-    let mut tidying = Tidying {
-        state: State::made(&falling(LEFT), 1, 0, None),
-        script: Script::default(),
-        written: Written::default(),
-    };
+    let mut tidying = Tidying::on(State::made(&falling(LEFT), 1, 0, None));
     for begin in [Call::BeginCompact { fill: 0 }, Call::BeginOrder] {
         loop {
             match tidying.call(begin) {
@@ -235,6 +313,14 @@ struct Tidying {
 }
 
 impl Tidying {
+    fn on(state: State) -> Tidying {
+        Tidying {
+            state,
+            script: Script::default(),
+            written: Written::default(),
+        }
+    }
+
     fn call(&mut self, call: Call) -> u8 {
         let used = self.state.numbers.used;
         let reply = self.script.call(&call, &mut self.state).reply;
@@ -264,6 +350,13 @@ impl Tidying {
     }
 }
 
+impl Written {
+    /// All bytes, to the log and to the store.
+    fn bytes(&self) -> u64 {
+        self.log + self.pages * PAGE_BYTES as u64
+    }
+}
+
 impl fmt::Display for Written {
     fn fmt(&self, f: &mut fmt::Formatter) -> fmt::Result {
         let (units, records) = (self.units, self.records);
@@ -274,4 +367,75 @@ impl fmt::Display for Written {
         let bytes = pages * PAGE_BYTES as u64;
         write!(f, "pages flushed {pages}, bytes to the store {bytes}")
     }
+}
+
+/// A full leaf's keys, and trees on which a put or a delete has each shape.
+const FULL: &[u32] = &[1, 2, 3, 4, 5, 6, 7, 8, 9, 10, 11, 12, 13, 14, 15];
+const THIN: &[ShortBase] = &[(1, &[(8, 0, &[10, 20]), (9, 30, &[30])])];
+const BASES: &[ShortBase] = &[(1, &[(8, 0, &[10])]), (2, &[(9, 30, &[30])])];
+
+/// What each shape writes: a put of the key, or a delete of it.
+const SHAPES: [(&str, bool, u32, &[ShortBase]); 9] = [
+    ("put that replaces", true, 20, THIN),
+    ("put that adds", true, 25, THIN),
+    ("put that splits", true, 16, &[(1, &[(8, 0, FULL)])]),
+    ("put of a first record", true, 20, &[]),
+    ("delete", false, 20, THIN),
+    ("delete that empties a leaf", false, 30, THIN),
+    ("delete that empties a base page", false, 30, BASES),
+    ("delete that empties the first base page", false, 10, BASES),
+    (
+        "delete of the last record",
+        false,
+        5,
+        &[(1, &[(8, 0, &[5])])],
+    ),
+];
+
+/// What puts and deletes write, a line each.
+pub fn saved() -> String {
+    let mut text = String::new();
+    for (name, put, key, tree) in SHAPES {
+        let mut saving = Tidying::on(State::made(&shape(tree), 1, 0, None));
+        saving.state.bytes = row_bytes(&[some_row(key)]);
+        saving.call(if put { Call::Put } else { Call::Delete { key } });
+        saving.finish();
+        let log = saving.written.log;
+        saving.settle();
+        let (records, pages) = (saving.written.records, saving.written.pages);
+        let fit = (LOG_BYTES - CHECK_BYTES) as u64 / log;
+        text += &format!(
+            "{name}: records {records}, bytes to the log {log}, so {fit} in an empty log; \
+             with a checkpoint after it {pages} pages and {} bytes in all\n",
+            saving.written.bytes()
+        );
+    }
+    text += &format!(
+        "{PUTS} puts, 400 records left of 840, any keys:\n{}",
+        many_puts()
+    );
+    text
+}
+
+/// Puts whose average is taken.
+const PUTS: u64 = 1000;
+
+/// Puts of any keys of the 840, each forced; a checkpoint where the log is
+/// full, and at the end.
+fn many_puts() -> Written {
+    let mut saving = Tidying::on(State::made(&falling(LEFT), 1, 0, None));
+    let mut chance = Chance::new(1);
+    while saving.written.units < PUTS {
+        let key = 10 * chance.within(1, RECORDS as u64) as u32;
+        saving.state.bytes = row_bytes(&[some_row(key)]);
+        match saving.call(Call::Put) {
+            reply::DONE => saving.finish(),
+            reply::ROOM => saving.settle(),
+            // No leaf page is empty: a leaf that is full takes no other key.
+            _ => {}
+        }
+        saving.call(Call::Force);
+    }
+    saving.settle();
+    saving.written
 }

@@ -7,16 +7,25 @@
 //! 3. recovery, with and without a cut, and cuts inside a recovery: some of
 //!    the records it appended are kept.
 //!
+//! Every second run saves: most of its calls are puts and deletes, of keys
+//! that are there, near them and at the ends of the range. Some trees are
+//! crowded, some have a record or two or none; some numbers start near the
+//! last one.
+//!
 //! After each recovery every clause of demand 3 is tested: reply 0, a
-//! well-formed tree, the records of the start, every begun unit complete,
-//! work pages and log equal to those of an uncut run of the surviving log
-//! from its check record, and a count that is the log's growth, at most 25.
+//! well-formed tree, the records of the start after the surviving begun puts
+//! and deletes, every begun unit complete, work pages and log equal to those
+//! of an uncut run of the surviving log from its check record, and a count
+//! that is the log's growth, at most 25. In the uncut run puts and deletes are
+//! calls: what the log holds of them is what they write.
 
 use crate::bytes::{page_of_mut, Numbers, PAGE_COUNT};
 use crate::chance::Chance;
-use crate::log::{Log, Record, Type};
+use crate::log::{Begin, Log, Placed, Record, Type, CHECK_BYTES};
 use crate::page::{read_pages, Row, BASES, LEAVES, MOST_ENTRIES, MOST_ROWS, ROW_BYTES};
-use crate::state::{record_bytes, row, Answer, BaseShape, Call, LeafShape, State, Values};
+use crate::state::{
+    record_bytes, row, row_bytes, Answer, BaseShape, Call, LeafShape, State, Values,
+};
 use crate::{reply, tree, unit};
 use std::collections::BTreeMap;
 use std::fmt;
@@ -24,8 +33,19 @@ use std::fmt;
 /// What makes the calls: the second program, or one with a planted fault.
 pub type Program<'a> = dyn Fn(&Call, &mut State) -> Answer + 'a;
 
-/// Most records that a recovery may append.
-const MOST_APPENDED: u32 = 25;
+/// What says which records there are, from those at the check record and the
+/// log.
+pub type Judge<'a> = dyn Fn(&[Row], &Log) -> Vec<Row> + 'a;
+
+/// Most records that a recovery may append: 25, of a put 4, of a delete 5.
+fn most_appended(found: &Log) -> u32 {
+    match found.open.as_ref().map(|open| open.begin.kind) {
+        None => 0,
+        Some(Type::Put) => 4,
+        Some(Type::Delete) => 5,
+        Some(_) => 25,
+    }
+}
 
 /// What runs have done.
 #[derive(Clone, Default, Debug, PartialEq, Eq)]
@@ -39,6 +59,8 @@ pub struct Counts {
     pub compacts: u64,
     pub swaps: u64,
     pub moves: u64,
+    pub puts: u64,
+    pub deletes: u64,
     pub checkpoints: u64,
     pub pairs: BTreeMap<(&'static str, u8), u64>,
 }
@@ -54,6 +76,8 @@ impl Counts {
         self.compacts += other.compacts;
         self.swaps += other.swaps;
         self.moves += other.moves;
+        self.puts += other.puts;
+        self.deletes += other.deletes;
         self.checkpoints += other.checkpoints;
         for (pair, times) in &other.pairs {
             *self.pairs.entry(*pair).or_default() += times;
@@ -72,8 +96,8 @@ impl fmt::Display for Counts {
         )?;
         writeln!(
             f,
-            "units begun: compact {} swap {} move {}",
-            self.compacts, self.swaps, self.moves
+            "units begun: compact {} swap {} move {} put {} delete {}",
+            self.compacts, self.swaps, self.moves, self.puts, self.deletes
         )?;
         write!(f, "pairs of call and reply {}", self.pairs.len())
     }
@@ -89,11 +113,40 @@ pub fn runs(count: u64, seed: u64, program: &Program) -> Result<Counts, String> 
     Ok(counts)
 }
 
+/// The records after all begun puts and deletes of this log, over those at its
+/// check record, both in key order.
+pub fn after_saves(rows: &[Row], log: &Log) -> Vec<Row> {
+    let mut records: BTreeMap<u32, Row> = rows.iter().map(|row| (row.key, *row)).collect();
+    for placed in &log.records {
+        match &placed.record {
+            Record::Begin(Begin {
+                kind: Type::Put,
+                row: Some(row),
+                ..
+            }) => records.insert(row.key, *row),
+            Record::Begin(Begin {
+                kind: Type::Delete,
+                row: Some(row),
+                ..
+            }) => records.remove(&row.key),
+            _ => None,
+        };
+    }
+    records.into_values().collect()
+}
+
 /// One run.
 pub fn run(seed: u64, program: &Program) -> Result<Counts, String> {
+    judged_run(seed, program, &after_saves)
+}
+
+/// One run whose records this judge tells.
+pub fn judged_run(seed: u64, program: &Program, judge: &Judge) -> Result<Counts, String> {
     let mut world = World {
         chance: Chance::new(seed),
         program,
+        judge,
+        saving: seed.is_multiple_of(2),
         counts: Counts::default(),
         state: State::zero(),
         origin: Vec::new(),
@@ -112,11 +165,14 @@ pub fn run(seed: u64, program: &Program) -> Result<Counts, String> {
 struct World<'a> {
     chance: Chance,
     program: &'a Program<'a>,
+    judge: &'a Judge<'a>,
+    /// Whether most calls are puts and deletes.
+    saving: bool,
     counts: Counts,
     state: State,
     /// The pages when the log's check record was written.
     origin: Vec<u8>,
-    /// The records of the start, in key order.
+    /// The records at that moment, in key order.
     rows: Vec<Row>,
     /// How many of the log's records a call has forced.
     forced: usize,
@@ -159,9 +215,16 @@ impl World<'_> {
         if self.chance.one_in(3) {
             return self.build();
         }
-        let shape = random_shape(&mut self.chance);
-        let number = self.chance.within(0, 1000) as u32;
-        let unit = self.chance.within(0, 1000) as u32;
+        let shape = match self.chance.within(1, 8) {
+            1 => crowded_shape(&mut self.chance),
+            2 => {
+                let count = self.chance.within(0, 2) as usize;
+                shape_with(&mut self.chance, count, 4, 1)
+            }
+            _ => random_shape(&mut self.chance),
+        };
+        let number = self.early_or_late();
+        let unit = self.early_or_late();
         let lk = self
             .chance
             .one_in(3)
@@ -181,6 +244,14 @@ impl World<'_> {
         self.forced = 1;
         self.rubbish();
         self.recover()
+    }
+
+    /// A log or unit number, now and then one near the last.
+    fn early_or_late(&mut self) -> u32 {
+        match self.chance.one_in(12) {
+            true => u32::MAX - self.chance.within(0, 200) as u32,
+            false => self.chance.within(0, 1000) as u32,
+        }
     }
 
     /// A build, accepted or refused.
@@ -216,26 +287,24 @@ impl World<'_> {
 
     /// One of the things that may happen.
     fn act(&mut self) -> Result<(), String> {
+        if self.saving && self.chance.one_in(3) {
+            return self.save();
+        }
         match self.chance.within(1, 100) {
-            1..=12 => {
+            1..=11 => {
                 let fill = self.chance.within(0, 17) as u32;
-                self.begin(Call::BeginCompact { fill })
+                self.begin(Call::BeginCompact { fill }).map(|_| ())
             }
-            13..=20 => self.begin(Call::BeginOrder),
-            21..=60 => self.call(Call::Step).map(|_| ()),
+            12..=19 => self.begin(Call::BeginOrder).map(|_| ()),
+            20..=22 => self.save(),
+            23..=60 => self.call(Call::Step).map(|_| ()),
             61..=66 => self.force(),
             67..=76 => {
                 let page = self.chance.within(0, 65) as u32;
                 self.call(Call::Flush { page }).map(|_| ())
             }
             77..=78 => self.checkpoint(),
-            79..=80 => {
-                self.force()?;
-                for page in 0..PAGE_COUNT as u32 {
-                    self.call(Call::Flush { page })?;
-                }
-                self.checkpoint()
-            }
+            79..=80 => self.settle(),
             81..=83 => self.find(),
             84..=85 => self.list(),
             86 => self.walk(),
@@ -251,15 +320,82 @@ impl World<'_> {
         }
     }
 
-    fn begin(&mut self, call: Call) -> Result<(), String> {
-        if self.call(call)?.reply == reply::DONE {
+    /// A begin, counted; returns its reply.
+    fn begin(&mut self, call: Call) -> Result<u8, String> {
+        let reply = self.call(call)?.reply;
+        if reply == reply::DONE {
             let log = self.log()?;
             match log.open.map(|open| open.begin.kind) {
                 Some(Type::Compact) => self.counts.compacts += 1,
                 Some(Type::Swap) => self.counts.swaps += 1,
                 Some(Type::Move) => self.counts.moves += 1,
+                Some(Type::Put) => self.counts.puts += 1,
+                Some(Type::Delete) => self.counts.deletes += 1,
                 None => return Err(format!("{call:?} accepted, no unit open")),
             }
+        }
+        Ok(reply)
+    }
+
+    /// Begins a put or a delete, and as a rule steps to its end. Where the log
+    /// is full a checkpoint is made, as a rule.
+    fn save(&mut self) -> Result<(), String> {
+        let call = match self.chance.one_in(2) {
+            true => Call::Delete { key: self.key()? },
+            false => {
+                self.lend_record()?;
+                Call::Put
+            }
+        };
+        match self.begin(call)? {
+            reply::ROOM if !self.chance.one_in(3) => self.settle(),
+            reply::DONE if !self.chance.one_in(4) => self.finish(),
+            _ => Ok(()),
+        }
+    }
+
+    /// Steps to the open unit's end: none is refused.
+    fn finish(&mut self) -> Result<(), String> {
+        while self.log()?.open.is_some() {
+            let reply = self.call(Call::Step)?.reply;
+            ensure(reply == reply::DONE, || format!("step refused: {reply}"))?;
+        }
+        Ok(())
+    }
+
+    /// The records that there are once the open unit has ended.
+    fn records(&self) -> Result<Vec<Row>, String> {
+        Ok((self.judge)(&self.rows, &self.log()?))
+    }
+
+    /// A key that is there, or near one, or at an end of the range.
+    fn key(&mut self) -> Result<u32, String> {
+        let rows = self.records()?;
+        let chance = &mut self.chance;
+        let there = match rows.len() as u64 {
+            0 => chance.within(0, 9) as u32,
+            count => rows[chance.within(0, count - 1) as usize].key,
+        };
+        Ok(match chance.within(1, 12) {
+            1..=6 => there,
+            7..=9 => there.wrapping_add(chance.within(1, 4) as u32),
+            10 => chance.within(0, 400) as u32,
+            11 => 0,
+            _ => u32::MAX,
+        })
+    }
+
+    /// Lends a put a record with any value.
+    fn lend_record(&mut self) -> Result<(), String> {
+        let key = self.key()?;
+        let mut value = [0; 10];
+        self.chance.fill(&mut value);
+        self.state.bytes = row_bytes(&[Row { key, value }]);
+        match self.chance.within(1, 40) {
+            1 => self.state.bytes.truncate(15),
+            2 => self.state.bytes.resize(2 * ROW_BYTES, 0),
+            3 => self.state.bytes[1] = b'd',
+            _ => {}
         }
         Ok(())
     }
@@ -277,18 +413,33 @@ impl World<'_> {
 
     fn checkpoint(&mut self) -> Result<(), String> {
         let clear = self.chance.one_in(2);
+        let rows = self.records()?;
         if self.call(Call::Checkpoint { clear })?.reply == reply::DONE {
             self.counts.checkpoints += 1;
             self.origin = self.state.store.clone();
+            self.rows = rows;
             self.forced = 1;
         }
         Ok(())
     }
 
+    /// Forces, flushes every page and makes a checkpoint.
+    fn settle(&mut self) -> Result<(), String> {
+        self.force()?;
+        for page in 0..PAGE_COUNT as u32 {
+            self.call(Call::Flush { page })?;
+        }
+        self.checkpoint()
+    }
+
     fn find(&mut self) -> Result<(), String> {
-        let key = self.chance.within(0, 400) as u32;
+        let key = match self.chance.one_in(2) {
+            true => self.key()?,
+            false => self.chance.within(0, 400) as u32,
+        };
         let answer = self.call(Call::Find { key })?;
-        let row = self.rows.iter().find(|row| row.key == key);
+        let rows = self.records()?;
+        let row = rows.iter().find(|row| row.key == key);
         let right = match (answer.reply, row) {
             (reply::OPEN, _) => true,
             (reply::DONE, Some(row)) => answer.values == Values::Value(row.value),
@@ -307,10 +458,10 @@ impl World<'_> {
         if answer.reply == reply::OPEN {
             return Ok(());
         }
-        let within = |row: &&Row| low <= row.key && row.key <= high;
-        let wanted: Vec<u32> = self.rows.iter().filter(within).map(|r| r.key).collect();
+        let within = |row: &Row| low <= row.key && row.key <= high;
+        let wanted: Vec<Row> = self.records()?.into_iter().filter(within).collect();
         let count = wanted.len().min(room / ROW_BYTES);
-        let mut out = record_bytes(&wanted[..count]);
+        let mut out = row_bytes(&wanted[..count]);
         out.resize(room, 0xaa);
         let values = Values::Listed(count as u32, wanted.len() > count);
         let right = answer.reply == reply::DONE && answer.values == values;
@@ -329,9 +480,10 @@ impl World<'_> {
         if self.log()?.open.is_some() {
             return Ok(());
         }
-        let wanted = self.rows.iter().filter(|row| key <= row.key);
-        let wanted: Vec<u32> = wanted.map(|row| row.key).take(room / ROW_BYTES).collect();
-        let mut out = record_bytes(&wanted);
+        let mut wanted = self.records()?;
+        wanted.retain(|row| key <= row.key);
+        wanted.truncate(room / ROW_BYTES);
+        let mut out = row_bytes(&wanted);
         out.resize(room, 0xaa);
         let values = Values::Walked(wanted.len() as u32);
         let right = answer.reply == reply::DONE && answer.values == values;
@@ -340,14 +492,14 @@ impl World<'_> {
         })
     }
 
-    /// Any call with any arguments.
-    fn any_call(&mut self) -> Call {
+    /// Any call with any arguments; a put's record is lent.
+    fn any_call(&mut self) -> Result<Call, String> {
         let number = match self.chance.within(1, 3) {
             1 => self.chance.draw() as u32,
             _ => self.chance.within(0, 70) as u32,
         };
         let other = self.chance.within(0, 70) as u32;
-        match self.chance.within(1, 11) {
+        Ok(match self.chance.within(1, 13) {
             1 => Call::Build {
                 f: number,
                 g: other,
@@ -363,16 +515,21 @@ impl World<'_> {
             },
             9 => Call::Find { key: number },
             10 => Call::Walk { key: number },
+            11 => Call::Delete { key: number },
+            12 => {
+                self.lend_record()?;
+                Call::Put
+            }
             _ => Call::List {
                 low: number,
                 high: other,
             },
-        }
+        })
     }
 
     /// Lends one buffer with a wrong length: the call is refused as 1.
     fn wrong_length(&mut self) -> Result<(), String> {
-        let call = self.any_call();
+        let call = self.any_call()?;
         let kept = self.state.clone();
         let lent = call.lent();
         let buffer = loop {
@@ -401,7 +558,7 @@ impl World<'_> {
     /// Lends numbers that do not fit the log: refused as 2, but for the two
     /// calls that set them and the one that is not lent any.
     fn wrong_numbers(&mut self) -> Result<(), String> {
-        let call = self.any_call();
+        let call = self.any_call()?;
         if matches!(call, Call::Build { .. } | Call::Recover) || !call.lent().log {
             return Ok(());
         }
@@ -474,14 +631,16 @@ impl World<'_> {
         let why = |what: &str| format!("recovery gave {answer:?}: {what}");
         ensure(answer.reply == reply::DONE, || why("refused"))?;
         let after = self.log()?;
-        let growth = (after.records.len() - found.records.len()) as u32;
+        let growth = after.records.len().checked_sub(found.records.len());
+        let growth = growth.ok_or_else(|| why("records of the log lost"))? as u32;
         ensure(answer.values == Values::Count(growth), || why("count"))?;
-        ensure(growth <= MOST_APPENDED, || why("too many"))?;
+        ensure(growth <= most_appended(&found), || why("too many"))?;
         ensure(after.open.is_none(), || why("a unit is open"))?;
         let pages = read_pages(&self.state.work).ok_or_else(|| why("page form"))?;
         let leaves = tree::leaves(&pages).ok_or_else(|| why("tree"))?;
         let rows = leaves.iter().flat_map(|leaf| &leaf.rows);
-        ensure(rows.eq(&self.rows), || why("records lost or made"))?;
+        let wanted = (self.judge)(&self.rows, &found);
+        ensure(rows.eq(&wanted), || why("records lost or made"))?;
         let numbers = Numbers {
             used: after.end() as u32,
             forced: found.end() as u32,
@@ -497,18 +656,26 @@ impl World<'_> {
     }
 
     /// The surviving log run forward over the pages of its check record, its
-    /// last unit finished by steps.
+    /// last unit finished by steps. Tidying is repeated record by record, puts
+    /// and deletes are called again.
     fn uncut(&self, found: &Log) -> Result<State, String> {
         let mut state = State::zero();
         state.work = self.origin.clone();
-        state.log = self.state.log.clone();
+        state.log[..CHECK_BYTES].copy_from_slice(&self.state.log[..CHECK_BYTES]);
         state.numbers = Numbers {
-            used: found.end() as u32,
-            forced: found.end() as u32,
+            used: CHECK_BYTES as u32,
+            forced: CHECK_BYTES as u32,
         };
-        for placed in &found.records {
-            unit::apply(found, &mut state.work, placed.number, &placed.record)
-                .map_err(|reply| format!("record {} forward: {reply}", placed.number))?;
+        let mut save = false;
+        for placed in &found.records[1..] {
+            if let Record::Begin(begin) = &placed.record {
+                save = begin.row.is_some();
+            }
+            let forward = match save {
+                true => called_again(&mut state, &placed.record),
+                false => self.repeated(&mut state, found, placed),
+            };
+            forward.map_err(|reply| format!("record {} forward: {reply}", placed.number))?;
         }
         let mut open = found.open.is_some();
         while open {
@@ -520,6 +687,50 @@ impl World<'_> {
         }
         Ok(state)
     }
+
+    /// A record of the log as it stands there, and its page change.
+    fn repeated(&self, state: &mut State, found: &Log, placed: &Placed) -> Result<(), u8> {
+        let bytes = state.numbers.used as usize..placed.end;
+        state.log[bytes.clone()].copy_from_slice(&self.state.log[bytes]);
+        state.numbers.used = placed.end as u32;
+        unit::apply(found, &mut state.work, placed.number, &placed.record)
+    }
+}
+
+/// The call that writes this record of a put or a delete.
+fn called_again(state: &mut State, record: &Record) -> Result<(), u8> {
+    let call = match record {
+        Record::Begin(Begin {
+            kind: Type::Put,
+            row: Some(row),
+            ..
+        }) => {
+            state.bytes = row_bytes(&[*row]);
+            Call::Put
+        }
+        Record::Begin(Begin { row: Some(row), .. }) => Call::Delete { key: row.key },
+        _ => Call::Step,
+    };
+    match call.on(state).reply {
+        reply::DONE => Ok(()),
+        reply => Err(reply),
+    }
+}
+
+/// A tree that is full or nearly so: no more than two leaf pages are empty, or
+/// one base page has 29 or 30 entries; leaves of all sizes.
+pub fn crowded_shape(chance: &mut Chance) -> Vec<BaseShape> {
+    let most = MOST_ROWS as u64;
+    if chance.one_in(2) {
+        let count = LEAVES.len() - chance.within(0, 2) as usize;
+        return shape_with(chance, count, LEAVES.len(), most);
+    }
+    let count = MOST_ENTRIES - chance.within(0, 1) as usize;
+    let bases = shape_with(chance, count, LEAVES.len(), most);
+    vec![BaseShape {
+        page: bases[0].page,
+        leaves: bases.into_iter().flat_map(|base| base.leaves).collect(),
+    }]
 }
 
 /// A well-formed tree: thin leaves mostly, on shuffled places, under one or

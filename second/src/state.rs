@@ -6,13 +6,16 @@ use crate::calls;
 use crate::log::{Begin, Log, Record, Type, CHECK_BYTES};
 use crate::page::{Body, Entry, Page, Row, MOST_ROWS, ROW_BYTES};
 
-/// A call with its arguments; `Walk` is the range reader, walked from a key on.
+/// A call with its arguments; `Walk` is the range reader, walked from a key
+/// on. A build's records, and a put's, are lent.
 #[derive(Clone, Copy, PartialEq, Eq, Debug)]
 pub enum Call {
     Build { f: u32, g: u32 },
     Recover,
     BeginCompact { fill: u32 },
     BeginOrder,
+    Put,
+    Delete { key: u32 },
     Step,
     Flush { page: u32 },
     Force,
@@ -38,8 +41,8 @@ pub struct Answer {
     pub values: Values,
 }
 
-/// The buffers that a call is lent. `bytes` is build's records, or the room of
-/// list and of a walk.
+/// The buffers that a call is lent. `bytes` is the records of build and of
+/// put, or the room of list and of a walk.
 #[derive(Clone, PartialEq, Eq, Debug)]
 pub struct State {
     pub numbers: Numbers,
@@ -65,6 +68,8 @@ impl Call {
             Call::Recover => "recover",
             Call::BeginCompact { .. } => "begin_compact",
             Call::BeginOrder => "begin_order",
+            Call::Put => "put",
+            Call::Delete { .. } => "delete",
             Call::Step => "step",
             Call::Flush { .. } => "flush",
             Call::Force => "force",
@@ -85,8 +90,13 @@ impl Call {
             work: !matches!(self, Call::Force),
             store,
             log: !matches!(self, Call::Walk { .. }),
-            bytes: matches!(self, Call::Build { .. }) || self.has_room(),
+            bytes: self.has_records() || self.has_room(),
         }
+    }
+
+    /// Whether the call is lent records.
+    pub fn has_records(&self) -> bool {
+        matches!(self, Call::Build { .. } | Call::Put)
     }
 
     /// Whether the call writes records into a room.
@@ -115,6 +125,8 @@ impl Call {
             }
             Call::BeginCompact { fill } => plain(calls::begin_compact(numbers, work, log, fill)),
             Call::BeginOrder => plain(calls::begin_order(numbers, work, log)),
+            Call::Put => plain(calls::put(numbers, work, log, bytes)),
+            Call::Delete { key } => plain(calls::delete(numbers, work, log, key)),
             Call::Step => plain(calls::step(numbers, work, log)),
             Call::Flush { page } => plain(calls::flush(numbers, work, store, log, page)),
             Call::Force => plain(calls::force(numbers, log)),
@@ -167,9 +179,15 @@ pub fn row(key: u32) -> Row {
 
 /// Such records as build takes them.
 pub fn record_bytes(keys: &[u32]) -> Vec<u8> {
-    let mut bytes = vec![0; ROW_BYTES * keys.len()];
-    for (&key, at) in keys.iter().zip(bytes.chunks_mut(ROW_BYTES)) {
-        row(key).write(at);
+    let rows: Vec<Row> = keys.iter().map(|&key| row(key)).collect();
+    row_bytes(&rows)
+}
+
+/// Any records as build and put take them and list gives them.
+pub fn row_bytes(rows: &[Row]) -> Vec<u8> {
+    let mut bytes = vec![0; ROW_BYTES * rows.len()];
+    for (row, at) in rows.iter().zip(bytes.chunks_mut(ROW_BYTES)) {
+        row.write(at);
     }
     bytes
 }
@@ -287,6 +305,30 @@ impl State {
         assert_eq!(self.numbers.used as usize + free, LOG_BYTES);
     }
 
+    /// The same with this record lent to a put.
+    pub fn lending(&self, row: Row) -> State {
+        let bytes = row_bytes(&[row]);
+        State {
+            bytes,
+            ..self.clone()
+        }
+    }
+
+    /// Puts a record whose value is told by its key, to the unit's end; returns
+    /// how many steps that took.
+    pub fn put(&mut self, key: u32) -> usize {
+        *self = self.lending(row(key));
+        self.done(Call::Put);
+        self.bytes.clear();
+        self.finish()
+    }
+
+    /// Deletes a record, to the unit's end; returns how many steps that took.
+    pub fn delete(&mut self, key: u32) -> usize {
+        self.done(Call::Delete { key });
+        self.finish()
+    }
+
     /// Makes a call that must be accepted.
     pub fn done(&mut self, call: Call) {
         let answer = call.on(self);
@@ -343,6 +385,7 @@ fn a_move(unit: u32, out: u32, rows: u32) -> [Record; 5] {
             bases: vec![1],
             leaves: vec![org],
             destination: dest,
+            row: None,
         }),
         Record::Out {
             org,

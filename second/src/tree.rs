@@ -1,6 +1,6 @@
 //! The well-formed tree: its leaves in key order, and the way down to a key.
 
-use crate::page::{read_page, Body, Entry, Page, Row};
+use crate::page::{read_page, read_pages, Body, Entry, Page, Row};
 use crate::reply;
 
 /// A leaf in key order with the base page whose entry points to it.
@@ -74,6 +74,13 @@ pub fn leaves(pages: &[Page]) -> Option<Vec<Leaf>> {
         .skip(1)
         .all(|(page, times)| times == (page.body != Body::Empty) as u32);
     once.then_some(leaves)
+}
+
+/// Tests 3 and 8 over all work pages: the pages, and their leaves.
+pub fn read_tree(work: &[u8]) -> Result<(Vec<Page>, Vec<Leaf>), u8> {
+    let pages = read_pages(work).ok_or(reply::FORM)?;
+    let leaves = leaves(&pages).ok_or(reply::TREE)?;
+    Ok((pages, leaves))
 }
 
 /// The value under `key`. Reads only the pages on the way down.

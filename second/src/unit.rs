@@ -1,14 +1,16 @@
 //! Units: choosing one, its next record, the room it needs, and the page
-//! change that a record makes. A step and a recovery share `advance`; a step
-//! and a repeated record share `change`.
+//! changes that a record makes. A step and a recovery share `advance`; a step
+//! and a repeated record share `change`. What a put or a delete changes is
+//! worked out in `save`.
 
-use crate::bytes::{get16, page_of, page_of_mut, LOG_BYTES};
+use crate::bytes::{get16, get32, page_of, page_of_mut, LOG_BYTES};
 use crate::log::{
-    Begin, Log, Open, Record, Step, Type, BEGIN_BYTES, END_BYTES, IN_BYTES, MODIFY_BYTES, OUT_BYTES,
+    Begin, Log, Open, Placed, Record, Step, Type, BEGIN_BYTES, END_BYTES, IN_BYTES, MODIFY_BYTES,
+    OUT_BYTES,
 };
 use crate::page::{read_page, Body, Page, Row, LEAVES, MOST_ROWS, ROW_BYTES};
-use crate::reply;
-use crate::tree::Leaf;
+use crate::tree::{read_tree, Leaf};
+use crate::{reply, save};
 
 /// Fill 0 stands for this one.
 const USUAL_FILL: u8 = 12;
@@ -41,6 +43,7 @@ pub fn choose_compact(
                 bases: vec![leaves[c].base],
                 leaves: listed.iter().map(|leaf| leaf.page).collect(),
                 destination: (before + 1..own).find(|&page| empty(page)).unwrap_or(own),
+                row: None,
             })
         })
 }
@@ -73,6 +76,7 @@ pub fn choose_order(leaves: &[Leaf], unit: u32) -> Option<Begin> {
             bases: vec![leaf.base],
             leaves: vec![leaf.page],
             destination: place,
+            row: None,
         },
         Some(there) => {
             let mut bases = vec![there.base, leaf.base];
@@ -84,6 +88,7 @@ pub fn choose_order(leaves: &[Leaf], unit: u32) -> Option<Begin> {
                 bases,
                 leaves: vec![place, leaf.page],
                 destination: 0,
+                row: None,
             }
         }
     })
@@ -101,13 +106,18 @@ fn room(steps: &[Step], work: &[u8]) -> usize {
     steps.iter().map(bytes).sum()
 }
 
-/// Begin's tests 6 and 7, over the whole unit.
-pub fn test_begin(log: &Log, work: &[u8], begin: &Begin) -> Result<(), u8> {
+/// The bytes and the records of the whole unit that this begin record gives.
+pub fn whole(begin: &Begin, work: &[u8]) -> (usize, u64) {
     let steps = begin.steps();
-    if log.end() + BEGIN_BYTES + room(&steps, work) > LOG_BYTES {
+    (BEGIN_BYTES + room(&steps, work), steps.len() as u64 + 1)
+}
+
+/// Begin's tests 6 and 7, over a whole unit of so many bytes and records.
+pub fn test_begin(log: &Log, (bytes, records): (usize, u64)) -> Result<(), u8> {
+    if log.end() + bytes > LOG_BYTES {
         return Err(reply::ROOM);
     }
-    let last = log.last() as u64 + 1 + steps.len() as u64;
+    let last = log.last() as u64 + records;
     if last > u32::MAX as u64 || log.unit == u32::MAX {
         return Err(reply::NUMBER);
     }
@@ -225,34 +235,106 @@ fn changed_page(
     Ok(Some((place, Page { number, body })))
 }
 
-fn put(work: &mut [u8], changed: Option<(u16, Page)>) {
-    if let Some((place, page)) = changed {
-        page_of_mut(work, place).copy_from_slice(&page.write());
+/// The log number of a page, whatever else it holds.
+fn stamp(work: &[u8], place: u16) -> u32 {
+    get32(page_of(work, place), 4)
+}
+
+/// All pages that the record leaves under its number: one, or for the end of a
+/// put or a delete those of its images whose page has a lower number.
+fn changed_pages(
+    log: &Log,
+    work: &[u8],
+    number: u32,
+    record: &Record,
+) -> Result<Vec<(u16, Page)>, u8> {
+    if !matches!(record, Record::End { .. }) {
+        let changed = changed_page(log, work, number, record)?;
+        return Ok(changed.into_iter().collect());
+    }
+    let images = log.images_of(number);
+    let lower = images.filter(|(place, image)| stamp(work, *place) < image.number);
+    Ok(lower.map(|(place, image)| (place, image.clone())).collect())
+}
+
+fn put(work: &mut [u8], changed: &[(u16, Page)]) {
+    for (place, page) in changed {
+        page_of_mut(work, *place).copy_from_slice(&page.write());
     }
 }
 
-/// Makes the page change of a record of the log again.
+/// Makes the page changes of a record of the log again.
 pub fn apply(log: &Log, work: &mut [u8], number: u32, record: &Record) -> Result<(), u8> {
-    let changed = changed_page(log, work, number, record)?;
-    put(work, changed);
+    let changed = changed_pages(log, work, number, record)?;
+    put(work, &changed);
     Ok(())
 }
 
-/// One step of the open unit: tests 5, 6 and 7, then the record and its page
-/// change.
+/// Repeats a record of the log, unless its page has it already.
+pub fn repeat(log: &Log, work: &mut [u8], placed: &Placed) -> Result<(), u8> {
+    let Placed { number, record, .. } = placed;
+    let has = |place| stamp(work, place) >= *number;
+    if record.changed().is_some_and(has) {
+        return Ok(());
+    }
+    apply(log, work, *number, record)
+}
+
+/// What the open unit's next step writes.
+struct Next {
+    record: Record,
+    /// The pages that it changes.
+    changed: Vec<(u16, Page)>,
+    /// The bytes that the unit still takes.
+    bytes: usize,
+    /// The number that may not pass the last one.
+    number: u64,
+}
+
+/// The next step of a unit whose steps its begin record gives: test 5.
+fn next_of_plan(log: &Log, open: &Open, work: &[u8]) -> Result<Next, u8> {
+    let record = next_record(log, open, work).ok_or(reply::MISFIT)?;
+    let number = log.last() as u64 + 1;
+    // A page stamped with a number that cannot be is never written: see test 7.
+    Ok(Next {
+        changed: changed_pages(log, work, number as u32, &record)?,
+        bytes: room(open.remaining(), work),
+        record,
+        number,
+    })
+}
+
+/// The next step of a put or a delete, worked out anew: tests 3 and 8 over all
+/// pages, 18 or 15, and 5. All its images bear its end's number.
+fn next_of_save(log: &Log, open: &Open, work: &[u8]) -> Result<Next, u8> {
+    let (pages, _) = read_tree(work)?;
+    let changes = save::changes(&pages, &open.begin)?;
+    let images = changes.len();
+    let number = save::end_number(log, open, &changes);
+    let record = save::next_record(log, open, changes).ok_or(reply::MISFIT)?;
+    Ok(Next {
+        changed: changed_pages(log, work, number as u32, &record)?,
+        bytes: save::room(images - open.done),
+        record,
+        number,
+    })
+}
+
+/// One step of the open unit: tests 5, 6 and 7, for a put or a delete 3, 8 and
+/// 18 or 15 before them; then the record and its page changes.
 pub fn advance(log: &mut Log, bytes: &mut [u8], work: &mut [u8]) -> Result<(), u8> {
     let open = log.open.as_ref().ok_or(reply::CLOSED)?;
-    let record = next_record(log, open, work).ok_or(reply::MISFIT)?;
-    let next = log.last() as u64 + 1;
-    // A page stamped with a number that cannot be is never written: see test 7.
-    let changed = changed_page(log, work, next as u32, &record)?;
-    if log.end() + room(open.remaining(), work) > LOG_BYTES {
+    let next = match open.begin.row {
+        Some(_) => next_of_save(log, open, work)?,
+        None => next_of_plan(log, open, work)?,
+    };
+    if log.end() + next.bytes > LOG_BYTES {
         return Err(reply::ROOM);
     }
-    if next > u32::MAX as u64 {
+    if next.number > u32::MAX as u64 {
         return Err(reply::NUMBER);
     }
-    log.append(bytes, record);
-    put(work, changed);
+    log.append(bytes, next.record);
+    put(work, &next.changed);
     Ok(())
 }

@@ -96,6 +96,30 @@ fn units_and_a_recovery_write_replies_and_a_count() {
 }
 
 #[test]
+fn puts_and_deletes_write_their_replies() {
+    let put = |key: u8| [b"U\x10\0\0\0rc", &[key, 0, 0, 0][..], &[7; 10]].concat();
+    let script = [
+        &put(20)[..],
+        b"SSG\x14\0\0\0X\x1e\0\0\0G\x14\0\0\0SSSX\x1e\0\0\0U\x02\0\0\0rcU\x10\0\0\0",
+        &[0; 16],
+    ]
+    .concat();
+    let said = answer(&after_build(&script));
+    // Build, put, its image and end, the new value; the delete of 30 takes
+    // page 9 and its entry, so two images; meanwhile a unit is open. Then 30
+    // is absent, two bytes are no record, and 16 zeros bear no mark.
+    let expected = [
+        &[0, 0, 0, 0, 0][..],
+        &[7; 10],
+        &[0, 9],
+        &[0; 10],
+        &[0, 0, 0, 15, 12, 16],
+    ]
+    .concat();
+    assert_eq!(said, expected);
+}
+
+#[test]
 fn a_dump_has_the_lent_lengths() {
     let whole = answer(&after_build(b"D"));
     assert_eq!(whole.len(), 1 + 2 * PAGES_BYTES + LOG_BYTES + 8);
@@ -120,7 +144,7 @@ fn a_dump_has_the_lent_lengths() {
 
 #[test]
 fn a_bad_command_writes_255_and_ends_the_service() {
-    let bad: [&[u8]; 14] = [
+    let bad: [&[u8]; 18] = [
         b"x",
         b"\0",
         b"G",
@@ -134,6 +158,10 @@ fn a_bad_command_writes_255_and_ends_the_service() {
         b"L\0\0\0\0\0\0\0\0\x01\x40\0\0DD",
         b"W\0\0\0\0\x01\x40\0\0DD",
         b"W\0\0\0\0\0\0\0",
+        b"U\x41\0\0\0DDDDDDDDDDDDDDDDDDDDDDDDDDDDDDDDDDDDDDDDDDDDDDDDDDDDDDDDDDDDDDDDDD",
+        b"U\x10\0\0\0rc",
+        b"U\x10\0\0",
+        b"X\x10\0\0",
         b"B\x01\0\0\0\x01\0\0\0\x10\0\0\0rc",
     ];
     for script in bad {
@@ -167,6 +195,9 @@ fn commands_read_back_as_they_were_written() {
         plain(Call::Recover),
         plain(Call::BeginCompact { fill: 300 }),
         plain(Call::BeginOrder),
+        Command::Call(Call::Put, vec![6; 64]),
+        Command::Call(Call::Put, Vec::new()),
+        plain(Call::Delete { key: 300 }),
         plain(Call::Step),
         plain(Call::Flush { page: 70_000 }),
         plain(Call::Force),

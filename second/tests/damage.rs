@@ -9,11 +9,11 @@
 
 use second::bytes::{page_of_mut, put32, LOG_BYTES, PAGES_BYTES, PAGE_COUNT};
 use second::chance::Chance;
-use second::harm::{any_call, harm, random_state};
+use second::harm::{any_call, harm, random_state, some_bytes};
 use second::log::{Begin, Record, Type};
-use second::page::Body;
+use second::page::{Body, Row};
 use second::reply::{pairs, Pair, ORDER};
-use second::state::{put_page, record_bytes, row, shape, Call, State, Values};
+use second::state::{put_page, record_bytes, row, shape, Call, LeafShape, State, Values};
 use std::collections::BTreeSet;
 
 const LAST: u32 = u32::MAX;
@@ -119,6 +119,7 @@ fn begun_in(free: usize, check: u32) -> State {
         bases: vec![1],
         leaves: vec![8, 9],
         destination: 8,
+        row: None,
     };
     state.append(log.last() + 1, &Record::Begin(begin));
     for place in 0..PAGE_COUNT as u16 {
@@ -138,6 +139,7 @@ fn begun_at(check: u32) -> State {
         bases: vec![1],
         leaves: vec![8, 9],
         destination: 8,
+        row: None,
     };
     state.append(check + 1, &Record::Begin(begin));
     state
@@ -311,10 +313,139 @@ fn by_hand() -> Vec<(Call, u8, State)> {
     cases
 }
 
+/// One leaf of 15 records, and so many of one, under one base page.
+fn full_and_more(more: u32) -> State {
+    let keys: Vec<u32> = (1..=15).collect();
+    let mut tree = shape(&[(1, &[(8, 0, &keys)])]);
+    tree[0].leaves.extend((1..=more).map(|leaf| LeafShape {
+        page: 8 + leaf as u16,
+        entry: 100 * leaf,
+        keys: vec![100 * leaf],
+    }));
+    State::made(&tree, 1, 0, None)
+}
+
+/// A begin record of a put or a delete after the log's last record, with the
+/// record of key 7.
+fn begun_save(state: &State, kind: Type) -> State {
+    let mut state = state.clone();
+    let log = state.read_log();
+    let value = [0; 10];
+    let begin = Begin::of_row(log.unit + 1, kind, Row { key: 7, value });
+    state.append(log.last() + 1, &Record::Begin(begin));
+    state
+}
+
+/// Puts and deletes: each reply when they begin and when they go on, and the
+/// order of the tests.
+fn saves_by_hand() -> Vec<(Call, u8, State)> {
+    let one = change(&row_one(), |s| records(s, &[25]));
+    let open = change(&begun(), |s| records(s, &[25]));
+    let crowded = change(&full_and_more(29), |s| records(s, &[99]));
+    let at = |state: &State, number: u32, unit: u32| {
+        change(state, |state| state.set_check(number, unit, None))
+    };
+    let room = |state: &State, free: usize| change(state, |state| state.fill_log(free));
+    let no_mark = |s: &mut State| s.bytes[0] = 0;
+    let delete = |key| Call::Delete { key };
+    let mut cases = vec![
+        (Call::Put, 0, one.clone()),
+        (Call::Put, 12, change(&one, |s| s.bytes.clear())),
+        (Call::Put, 12, change(&one, |s| records(s, &[1, 2]))),
+        (Call::Put, 12, change(&open, |s| s.bytes = vec![0; 15])),
+        (Call::Put, 16, change(&one, no_mark)),
+        (Call::Put, 16, change(&open, no_mark)),
+        (Call::Put, 18, crowded.clone()),
+        (Call::Put, 0, change(&crowded, |s| records(s, &[15]))),
+        (
+            Call::Put,
+            0,
+            change(&full_and_more(28), |s| records(s, &[99])),
+        ),
+        (Call::Put, 18, at(&crowded, LAST, LAST)),
+        (Call::Put, 18, room(&crowded, 100)),
+        (Call::Put, 8, change(&crowded, bad_tree)),
+        (Call::Put, 0, room(&one, 348)),
+        (Call::Put, 6, room(&one, 344)),
+        (Call::Put, 0, at(&one, LAST - 3, LAST - 1)),
+        (Call::Put, 7, at(&one, LAST - 2, 0)),
+        (Call::Put, 7, at(&one, 1, LAST)),
+        (Call::Put, 6, room(&at(&one, LAST - 200, LAST - 200), 100)),
+        (delete(10), 0, one.clone()),
+        (delete(11), 15, one.clone()),
+        (delete(11), 15, at(&one, LAST, LAST)),
+        (delete(11), 15, room(&one, 100)),
+        (delete(11), 8, change(&one, bad_tree)),
+        (delete(10), 0, room(&one, 348)),
+        (delete(10), 6, room(&one, 344)),
+        (delete(10), 0, at(&one, LAST - 3, LAST - 1)),
+        (delete(10), 7, at(&one, LAST - 2, 0)),
+        (delete(10), 7, at(&one, 1, LAST)),
+    ];
+    for call in [Call::Put, delete(10)] {
+        cases.extend([
+            (call, 1, change(&change(&one, bad_log), bad_length)),
+            (call, 1, change(&one, |s| s.work.truncate(1))),
+            (call, 2, change(&change(&one, bad_log), bad_page)),
+            (call, 2, change(&open, |s| s.numbers.used -= 4)),
+            (call, 9, change(&open, bad_page)),
+            (call, 3, change(&change(&one, bad_page), bad_tree)),
+            (call, 8, change(&one, bad_tree)),
+        ]);
+    }
+    for call in [Call::Step, Call::Recover] {
+        let put = begun_save(&row_one(), Type::Put);
+        let full = begun_save(&full_and_more(29), Type::Put);
+        let absent = begun_save(&row_one(), Type::Delete);
+        let logged = change(&put, |state| state.done(Call::Step));
+        let value = |state: &mut State| state.log[24 + 60 + 16 + 16 + 15] ^= 1;
+        let number = |state: &mut State| state.log[24 + 60 + 16 + 4] ^= 1;
+        cases.extend([
+            (call, 0, put.clone()),
+            (call, 0, logged.clone()),
+            (call, 3, change(&change(&put, bad_page), bad_tree)),
+            (call, 8, change(&put, bad_tree)),
+            (call, 8, change(&absent, bad_tree)),
+            (call, 15, absent),
+            (call, 5, change(&logged, value)),
+            (call, 5, change(&logged, number)),
+            (
+                call,
+                6,
+                change(&begun_save(&room(&row_one(), 344), Type::Put), stamped),
+            ),
+            (
+                call,
+                0,
+                change(&begun_save(&room(&row_one(), 348), Type::Put), stamped),
+            ),
+            (call, 7, begun_save(&at(&row_one(), LAST - 2, 0), Type::Put)),
+            (call, 0, begun_save(&at(&row_one(), LAST - 3, 0), Type::Put)),
+        ]);
+        // Key 7 is in the full leaf, so that no leaf is needed; 99 needs one.
+        cases.push((call, 0, full));
+        let mut needs = full_and_more(29);
+        let row = row(99);
+        needs.append(2, &Record::Begin(Begin::of_row(1, Type::Put, row)));
+        cases.push((call, 18, needs.clone()));
+        cases.push((call, 8, change(&needs, bad_tree)));
+    }
+    cases
+}
+
+/// The store has all that its log has written.
+fn stamped(state: &mut State) {
+    let number = state.read_log().last() - 1;
+    for place in 0..PAGE_COUNT as u16 {
+        put32(page_of_mut(&mut state.store, place), 4, number);
+    }
+}
+
 #[test]
 fn every_reply_of_every_call_is_met() {
     let mut met = Pairs::new();
-    let cases = by_hand();
+    let mut cases = by_hand();
+    cases.extend(saves_by_hand());
     for (i, (call, expected, state)) in cases.iter().enumerate() {
         let reply = make(*call, state, "by hand");
         assert_eq!(reply, *expected, "case {i}: {call:?}");
@@ -338,7 +469,7 @@ fn random_damage_is_refused_or_does_no_harm() {
         for _ in 0..12 {
             let call = any_call(&mut chance);
             let mut lent = state.clone();
-            lent.bytes = vec![0; chance.within(0, 40) as usize];
+            lent.bytes = some_bytes(&mut chance, &call);
             harm(&mut chance, &mut lent);
             let reply = make(call, &lent, &format!("seed {seed}"));
             met.insert((call.name(), reply));

@@ -3,13 +3,13 @@
 //! without a fault, driven alike, must show no difference, and a program that
 //! answers nothing must fail.
 
-use second::faults::FAULTS;
+use second::faults::{FAULTS, SAVE_FAULTS};
 use std::fs;
 use std::path::PathBuf;
 use std::process::{Command, Output};
 
 /// Calls to make: those of the scripts made by hand, and some hundreds more.
-const CALLS: &str = "2800";
+const CALLS: &str = "4600";
 /// The faults that build, find, list and the range reader alone can show.
 const READING_FAULTS: [&str; 9] = [
     "longer-lent",
@@ -66,6 +66,13 @@ fn caught(name: &str, options: &[&str]) {
 #[test]
 fn planted_faults_are_found() {
     for fault in &FAULTS {
+        caught(fault.name, &[]);
+    }
+}
+
+#[test]
+fn planted_faults_of_puts_and_deletes_are_found() {
+    for fault in &SAVE_FAULTS {
         caught(fault.name, &[]);
     }
 }

@@ -7,7 +7,7 @@ use second::state::{Answer, Call, State, Values};
 use second::vectors::{cases, line};
 use std::collections::{BTreeMap, BTreeSet};
 
-const LABELS: [&str; 24] = [
+const LABELS: [&str; 44] = [
     "dest-L",
     "dest-L-other-base",
     "dest-new",
@@ -32,6 +32,26 @@ const LABELS: [&str; 24] = [
     "log-field",
     "page-field",
     "check-zero",
+    "put-replaces",
+    "put-adds",
+    "put-same",
+    "put-splits",
+    "put-freed",
+    "put-first",
+    "put-again",
+    "put-length",
+    "put-mark",
+    "put-crowded",
+    "delete",
+    "delete-base",
+    "delete-last",
+    "delete-absent",
+    "save-open",
+    "recover-save",
+    "forged-crowded",
+    "image-differs",
+    "image-ended",
+    "end-number",
 ];
 
 fn number(word: &str) -> u32 {
@@ -69,6 +89,8 @@ fn call(name: &str, arguments: &[u32]) -> Call {
         ("recover", []) => Call::Recover,
         ("begin_compact", &[fill]) => Call::BeginCompact { fill },
         ("begin_order", []) => Call::BeginOrder,
+        ("put", []) => Call::Put,
+        ("delete", &[key]) => Call::Delete { key },
         ("step", []) => Call::Step,
         ("flush", &[page]) => Call::Flush { page },
         ("force", []) => Call::Force,
@@ -147,12 +169,12 @@ fn every_label_and_every_pair_is_there() {
         let reply = case.call.on(&mut case.state.clone()).reply;
         *pairs.entry((case.call.name(), reply)).or_default() += 1;
     }
-    // The vectors are of the ten calls: the range reader has none.
+    // The vectors are of the twelve calls: the range reader has none.
     for (name, reply) in reply::pairs().filter(|(name, _)| *name != "walk") {
         let times = pairs.get(&(name, reply)).copied().unwrap_or(0);
         assert!(times >= 2, "{name} {reply}: {times} vectors");
     }
-    assert_eq!(pairs.len(), 67);
-    assert!(cases.len() >= 320);
+    assert_eq!(pairs.len(), 92);
+    assert!(cases.len() >= 900);
     println!("{} vectors, {} pairs", cases.len(), pairs.len());
 }

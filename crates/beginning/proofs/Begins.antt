@@ -9,13 +9,12 @@ use lib.ListN.{length}
 use lib.Dec.{leb}
 use borrow.Author.Tests.{le-leb, lt-leb}
 use Rattle.field.specs.Test.{need, given, when, there}
-use Rattle.field.proofs.Test.{bind-some, when-some, need-true, need-false, given-some, given-none}
+use Rattle.field.proofs.Test.{need-true, need-false, given-some, given-none}
 use Rattle.page.specs.Pages.{pages, allFormed}
 use Rattle.log.specs.Record.{Begin}
-use Rattle.log.specs.Log.{State, Log, readLog, atEnd}
+use Rattle.log.specs.Log.{State, Log, atEnd}
 use Rattle.log.specs.Scan.{shown, scanned}
 use Rattle.log.specs.declared.scan.Scan.{Scan}
-use Rattle.log.proofs.Read.{readLog-facts}
 use Rattle.tree.specs.Tree.{wellFormed}
 use Rattle.unit.specs.Choice.{compactUnit, orderUnit}
 use Rattle.unit.specs.Chosen.{Picks}
@@ -23,10 +22,10 @@ use Rattle.unit.specs.declared.choice.Choice.{Choice}
 use Rattle.store.specs.Calls.{Lent, lent, Left, left, refused, twoSized, known, begun, beginWith, beginCompact, beginOrder}
 use Rattle.starting.specs.Begins.{unready, recordOf}
 use Rattle.store.specs.Knows.{knows}
-use Rattle.store.proofs.Chain.{two-no-work, two-no-log, two-sized}
-use Rattle.store.proofs.Passed.{Knows, knows-yes, knows-no}
-use Rattle.store.proofs.Ending.{end-at, end-opened, end-lk}
+use Rattle.store.proofs.Passed.{Knows, knows-yes}
+use Rattle.store.proofs.Ending.{end-opened, end-lk}
 use Rattle.store.proofs.Replies.{refused-as}
+use Rattle.starting.proofs.Asked.{Kept, got, begin-past}
 use Rattle.beginning.proofs.Units.{picked, none-picked}
 
 -- ---- tests 9, 3 and 8
@@ -82,43 +81,9 @@ module _ (d : Lent) (s : State) (choose : ℕ → List (List ℕ) → Option Beg
 
 -- ---- the begins
 
--- a log that test 2 finds ends within the log's bytes
-end-inside : (d : Lent) (g : Log) → known d ≡ some g → atEnd g .at ≤ length (d .log)
-unfolding known
-end-inside d g e =
-    let b = bind-some (readLog (d .log)) _ g e in
-    let r : b .from ≡ g = when-some _ (b .from) g (b .gives) .1 in
-    readLog-facts (d .log) g (b .was ∙ ap some r) .short
-
 module _ (used forced : ℕ) (work log : List ℕ) where
   abbrev d : Lent
   d = lent used forced work [] log []
-
-  -- the code returns the reply r and the numbers that it was given
-  abbrev Kept : (v u f r : ℕ) → Type 0
-  Kept v u f r = (v ≡ r) × (u ≡ used) × (f ≡ forced)
-
-  abbrev got : (v u f : ℕ) → Left
-  got v u f = left v [] (lent u f work [] log [])
-
-  -- tests 1 and 2 of a call that is lent work and log
-  module _ (call : Left) (body : Log → Left) (is : call ≡ need (twoSized d) (refused 0 1 d) (given (known d) (refused 0 2 d) body)) where
-    pub begin-work : (v u f : ℕ) → Kept v u f 1 → (length work ≡ 16384 → ⊥) → got v u f ≡ call
-    begin-work v u f q a = refused-as d 1 v u f call (is ∙ need-false (twoSized d) (refused 0 1 d) _ (two-no-work d a)) q
-
-    pub begin-log : (v u f : ℕ) → Kept v u f 1 → length work ≡ 16384 → (length log ≡ 8192 → ⊥) → got v u f ≡ call
-    begin-log v u f q a b = refused-as d 1 v u f call (is ∙ need-false (twoSized d) (refused 0 1 d) _ (two-no-log d a b)) q
-
-    module _ (a : length work ≡ 16384) (b : length log ≡ 8192) (t : Scan) (e : t ≡ scanned forced log) where
-      pub begin-form : (v u f : ℕ) → Kept v u f 2 → knows t used ≡ false → got v u f ≡ call
-      begin-form v u f q k =
-          refused-as d 2 v u f call
-          (is ∙ need-true (twoSized d) (refused 0 1 d) _ (two-sized d a b) ∙ given-none (known d) (refused 0 2 d) body (knows-no d t e k)) q
-
-      pub begin-past : (k : knows t used ≡ true) → call ≡ body (knows-yes d t e k .log)
-      begin-past k =
-          is ∙ need-true (twoSized d) (refused 0 1 d) _ (two-sized d a b)
-          ∙ given-some (known d) (knows-yes d t e k .log) (refused 0 2 d) body (knows-yes d t e k .is)
 
   -- test 2 passed
   module _ (a : length work ≡ 16384) (b : length log ≡ 8192) (t : Scan) (e : t ≡ scanned forced log) (k : knows t used ≡ true) where
@@ -128,12 +93,9 @@ module _ (used forced : ℕ) (work log : List ℕ) where
     abbrev s : State
     s = atEnd (g .log)
 
-    pub begin-inside : t .walk .at ≤ 8192
-    begin-inside = let i : t .walk .at ≡ s .at = end-at d t g in omega (arith, end-inside d (g .log) (g .is))
-
     -- a call that goes on as both do
     module _ (call : Left) (choose : ℕ → List (List ℕ) → Option Begin) (is : call ≡ beginWith d s choose) where
-      pub begin-tests : (v u f r : ℕ) → Kept v u f r → r ≡ unready (t .walk .opened) work → (r ≡ 0 → ⊥) → got v u f ≡ call
+      pub begin-tests : (v u f r : ℕ) → Kept used forced work log [] v u f r → r ≡ unready (t .walk .opened) work → (r ≡ 0 → ⊥) → got used forced work log [] v u f ≡ call
       begin-tests v u f r q i z =
           refused-as d r v u f call (is ∙ begin-unready d s choose r (i ∙ ap (λ (o : Bool). unready o work) (end-opened d t g)) z) q
 
@@ -141,7 +103,7 @@ module _ (used forced : ℕ) (work log : List ℕ) where
         ready : 0 ≡ unready (there (s .opened)) work
         ready = sym z ∙ i ∙ ap (λ (o : Bool). unready o work) (end-opened d t g)
 
-        pub begin-nothing : (v u f : ℕ) → Kept v u f 11 → c .found ≡ false → got v u f ≡ call
+        pub begin-nothing : (v u f : ℕ) → Kept used forced work log [] v u f 11 → c .found ≡ false → got used forced work log [] v u f ≡ call
         begin-nothing v u f q n = refused-as d 11 v u f call (is ∙ begin-none d s choose ready (none-picked c _ p n (s .unit + 1))) q
 
         pub begin-goes : (x : Left) → c .found ≡ true → ((s : State) → t .walk ≡ shown s → x ≡ begun d s (recordOf c (s .unit + 1))) → x ≡ call
@@ -157,15 +119,15 @@ module _ (used forced : ℕ) (work log : List ℕ) where
     compact-is = refl
 
     module _ (a : length work ≡ 16384) (b : length log ≡ 8192) (t : Scan) (e : t ≡ scanned forced log) (k : knows t used ≡ true) where
-      pub compact-fill : (v u f : ℕ) → Kept v u f 12 → 15 < fill → got v u f ≡ beginCompact fill d
+      pub compact-fill : (v u f : ℕ) → Kept used forced work log [] v u f 12 → 15 < fill → got used forced work log [] v u f ≡ beginCompact fill d
       compact-fill v u f q h =
           refused-as d 12 v u f (beginCompact fill d)
-          (begin-past (beginCompact fill d) compact-body compact-is a b t e k ∙ need-false _ (refused 0 12 d) _ (lt-leb fill 15 h)) q
+          (begin-past used forced work log [] (beginCompact fill d) compact-body compact-is a b t e k ∙ need-false _ (refused 0 12 d) _ (lt-leb fill 15 h)) q
 
       pub compact-with : fill ≤ 15
           → beginCompact fill d ≡ beginWith d (atEnd (knows-yes d t e k .log)) (λ unit ps. compactUnit unit fill (when (t .walk .known) (t .walk .lk)) ps)
       compact-with h =
-          begin-past (beginCompact fill d) compact-body compact-is a b t e k ∙ need-true _ (refused 0 12 d) _ (le-leb fill 15 h)
+          begin-past used forced work log [] (beginCompact fill d) compact-body compact-is a b t e k ∙ need-true _ (refused 0 12 d) _ (le-leb fill 15 h)
           ∙ ap (λ (lk : Option ℕ). beginWith d (atEnd (knows-yes d t e k .log)) (λ unit ps. compactUnit unit fill lk ps)) (sym (end-lk d t (knows-yes d t e k)))
 
   -- begin order
@@ -178,4 +140,4 @@ module _ (used forced : ℕ) (work log : List ℕ) where
 
   pub order-with : (a : length work ≡ 16384) (b : length log ≡ 8192) (t : Scan) (e : t ≡ scanned forced log) (k : knows t used ≡ true)
       → beginOrder d ≡ beginWith d (atEnd (knows-yes d t e k .log)) orderUnit
-  order-with a b t e k = begin-past (beginOrder d) order-body order-is a b t e k
+  order-with a b t e k = begin-past used forced work log [] (beginOrder d) order-body order-is a b t e k

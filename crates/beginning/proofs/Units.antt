@@ -10,7 +10,7 @@ use lib.Dec.{eqb}
 use Rattle.field.specs.Bytes.{most4}
 use Rattle.field.proofs.Test.{pick-either, when-true, when-false}
 use Rattle.page.specs.Pages.{pages}
-use Rattle.log.specs.Record.{Begin}
+use Rattle.log.specs.Record.{Begin, saves}
 use Rattle.log.specs.Plan.{Step, takeOut, bringIn, point, close, gather, removals, others, replacing, compactPlan, movePlan, swapPlan, plan}
 use Rattle.log.specs.Write.{beginOf}
 use Rattle.unit.specs.Choice.{compactUnit, orderUnit}
@@ -52,7 +52,8 @@ plan-short g =
     let few : length (steps g) ≤ 3 * length (g .leaves) + 7 =
     unfold steps in
     pick-either (λ (x : List Step). length x ≤ 3 * length (g .leaves) + 7) (eqb (g .type) 1) _ _ (omega (arith, compact-few (getD (g .bases) 0 0) (g .dest) (g .leaves)))
-    (pick-either (λ (x : List Step). length x ≤ 3 * length (g .leaves) + 7) (eqb (g .type) 2) _ _ (omega arith) (omega arith)) in
+    (pick-either (λ (x : List Step). length x ≤ 3 * length (g .leaves) + 7) (eqb (g .type) 2) _ _ (omega arith)
+    (pick-either (λ (x : List Step). length x ≤ 3 * length (g .leaves) + 7) (saves g) _ _ (omega arith) (omega arith))) in
     omega (arith, ap length (steps-end g) ∙ length-append (steps g) (close (g .unit) ∷ []))
 
 -- the unit found is the one that f gives
@@ -74,16 +75,10 @@ module _ (w : List ℕ) (tidy : Tidy w) (c : Choice) (found : c .found ≡ true)
 
   pub compact-writable : (fill : ℕ) (lk : Option ℕ) → fill ≤ 15 → Picks c (λ u. compactUnit u fill lk (pages w)) → Writable c
   compact-writable fill lk h p =
-      record {
-        bases = p .some-bases;
-        leaves = p .some-leaves;
-        ok = compact-keeps w tidy 0 0 fill lk (recordOf c 0) (omega arith) h (picked c _ p found 0) (short (p .some-leaves)) .ok;
-      }
+      let k = compact-keeps w tidy 0 0 fill lk (recordOf c 0) (omega arith) h (picked c _ p found 0) (short (p .some-leaves)) in
+      record { bases = p .some-bases; leaves = p .some-leaves; ok = k .ok; plain = k .plain }
 
   pub order-writable : Picks c (λ u. orderUnit u (pages w)) → Writable c
   order-writable p =
-      record {
-        bases = p .some-bases;
-        leaves = p .some-leaves;
-        ok = order-keeps w tidy 0 0 (recordOf c 0) (omega arith) (picked c _ p found 0) (short (p .some-leaves)) .ok;
-      }
+      let k = order-keeps w tidy 0 0 (recordOf c 0) (omega arith) (picked c _ p found 0) (short (p .some-leaves)) in
+      record { bases = p .some-bases; leaves = p .some-leaves; ok = k .ok; plain = k .plain }

@@ -64,7 +64,7 @@ countsWritten = eqb (countWritten three (zeroes 47)) 2
 
 -- a compact of pages 8 and 9 into 8
 unfoldable pub packs : Begin
-packs = record { unit = 1; type = 1; fill = 4; bases = 1 ∷ []; leaves = 8 ∷ 9 ∷ []; dest = 8 }
+packs = record { unit = 1; type = 1; fill = 4; bases = 1 ∷ []; leaves = 8 ∷ 9 ∷ []; dest = 8; saved = [] }
 
 -- LK after a compact is the largest key moved by all its LOs, not by the last: the latest stands first
 unfoldable pub largestOfAll : Bool
@@ -75,7 +75,7 @@ largestOfAll =
 unfoldable pub endEnds : Bool
 endEnds =
     let now : Option Open = some (record { start = packs; did = []; todo = [] }) in
-    both (there (openedBy (LI 9 8 1 []) now)) (not (there (openedBy (LE 1) now)))
+    both (there (openedBy (LI 9 8 1 []) now)) (not (there (openedBy (LE 1 []) now)))
 
 -- what a swap's second LI brings in stands behind LB: 44 bytes after 24, where the unit begins
 unfoldable pub sourceBehind : Bool

@@ -3,7 +3,7 @@ use Prim.Native.Nat.{ℕ, _+_, _-_, _*_, _≤_, _<_}
 use native.Mathlib.Omega.{arith}
 use mathlib.Core.Path.{_≡_, refl, sym, ap, _∙_}
 use mathlib.Core.Bool.{Bool, true, false, not, false≢true}
-use mathlib.Core.List.{List, _∷_}
+use mathlib.Core.List.{List, [], _∷_}
 use mathlib.Core.Option.{Option, some, none}
 use lib.ListN.{length, take, drop}
 use lib.Dec.{leb}
@@ -11,7 +11,7 @@ use borrow.Author.Tests.{le-leb, lt-leb, leb-true, not-true, not-false}
 use borrow.Rule.Slice.PartAt.{part-to-end}
 use Rattle.field.specs.Test.{need, given, when, bind, there}
 use Rattle.field.specs.Bytes.{part, put, most4}
-use Rattle.field.proofs.Test.{need-true, need-false, given-some, given-none, when-true, when-false, there-some}
+use Rattle.field.proofs.Test.{pick-false, need-true, need-false, given-some, given-none, when-true, when-false, there-some}
 use Rattle.field.proofs.Part.{split, length-part, part-part, drop-cut, lent-part}
 use Rattle.page.specs.Page.{rowsOf, ascendRecords, count, rows, entries, records, isBase, isLeaf}
 use Rattle.page.specs.Pages.{page}
@@ -28,15 +28,15 @@ use Rattle.log.specs.declared.scan.Walk.{Walk}
 use Rattle.log.proofs.Puts.{encode-in}
 use Rattle.log.proofs.Laid.{Sourced}
 use Rattle.log.proofs.Toward.{toward-source}
-use Rattle.unit.specs.Next.{targets, apply, targetOf, pageOf, lowestTo, skipped, nextRec, stepSize, room}
+use Rattle.unit.specs.Next.{targets, apply, targetOf, pageOf, lowestTo, skipped, nextRec, stepSize, room, placesOf}
 use Rattle.unit.specs.Made.{keyIn, Did}
 use Rattle.unit.specs.declared.entry.Lowest.{Lowest}
 use Rattle.unit.specs.declared.entry.Lowest.the-variants.{Nothing, Key}
 use Rattle.unit.proofs.Pagewise.{apply-stays}
 use Rattle.unit.proofs.Applied.{out-own, can-page}
-use Rattle.store.specs.Calls.{Went, stopped, went, didOf, todoOf, append}
+use Rattle.store.specs.Calls.{Went, stopped, went, didOf, append}
 use Rattle.unit.specs.Again.{nextStep}
-use Rattle.forward.specs.Appends.{appendFirst, appendNext, replyIn, workIn, logIn, Goes, toCome, tested}
+use Rattle.forward.specs.Appends.{appendFirst, appendOpen, appendNext, replyIn, workIn, logIn, Goes, toCome, tested}
 use Rattle.forward.proofs.Stands.{Stands, at-is, number-is, steps-are, todo-is, skip-is}
 
 -- ---- what the code leaves
@@ -114,8 +114,8 @@ did-made (some x) w z v t d = ap some (sym (d .left))
 
 module _ (work : List ℕ) {l : List ℕ} {w : Walk} (s : Stands l w) (x : Step) (next : nextStep l w ≡ x) where
   pub next-append : appendNext work l ≡ append x (s .next .others) (atEnd (s .log)) work l
-  unfolding appendNext appendFirst todoOf given
-  next-append = rw (s .read, s .opened, todo-is s x next)
+  unfolding appendNext appendOpen appendFirst given
+  next-append = rw (s .read, s .opened) (pick-false _ _ _ (s .plain) ∙ rw (todo-is s x next))
 
   -- the record, given the page that it changes
   abbrev recs : Option Rec
@@ -235,7 +235,7 @@ module _ (work : List ℕ) {l : List ℕ} {w : Walk} (s : Stands l w) (org dest 
 
 module _ (work : List ℕ) {l : List ℕ} {w : Walk} (s : Stands l w) (org dest back : ℕ) (next : nextStep l w ≡ bringIn org dest back) where
   source : Sourced l (atEnd (s .log)) (s .unit .did) back
-  source = toward-source (s .toward) (s .opened) (todo-is s (bringIn org dest back) next)
+  source = toward-source (s .toward) (s .opened) (s .plain) (todo-is s (bringIn org dest back) next)
 
   -- the records of its LO, by numbers
   module _ (k from : ℕ) (e : k ≡ sourceRows w back) (f : from ≡ sourceAt w back) where
@@ -361,19 +361,19 @@ module _ (work : List ℕ) {l : List ℕ} {w : Walk} (s : Stands l w) (base old 
 -- ---- LE
 
 module _ (work : List ℕ) {l : List ℕ} {w : Walk} (s : Stands l w) (unit : ℕ) (next : nextStep l w ≡ close unit) where
-  close-record : nextRec (close unit) (s .unit .did) (pageOf (targetOf (close unit)) work) ≡ some (LE unit)
+  close-record : nextRec (close unit) (s .unit .did) (pageOf (targetOf (close unit)) work) ≡ some (LE unit [])
   unfolding nextRec
   close-record = refl
 
-  close-made : apply (w .number .0 + 1) (LE unit) work ≡ some work
-  unfolding targets
-  close-made = apply-stays (w .number .0 + 1) (LE unit) work refl
+  close-made : apply (w .number .0 + 1) (LE unit []) work ≡ some work
+  unfolding targets placesOf
+  close-made = apply-stays (w .number .0 + 1) (LE unit []) work refl
 
   module _ (t : ℕ) (g : t ≡ tested (w .at + room work (toCome l w)) (w .number .0 + 1)) where
     pub close-stopped : (t ≡ 0 → ⊥) → Goes (appendNext work l) work l t work l
     close-stopped j = goes-stopped _ work l t (append-stops work s (close unit) next _ close-record (there-some _ _ close-made) t g j)
 
-    pub close-goes : t ≡ 0 → (m : List ℕ) → m ≡ put (w .at) (encode (w .number .0 + 1) (LE unit)) l → Goes (appendNext work l) work l 0 work m
+    pub close-goes : t ≡ 0 → (m : List ℕ) → m ≡ put (w .at) (encode (w .number .0 + 1) (LE unit [])) l → Goes (appendNext work l) work l 0 work m
     close-goes j m p = goes-went _ work l _ work m (append-goes work s (close unit) next _ close-record work m (sym g ∙ j) close-made p)
 
   pub close-room : tested (w .at + room work (toCome l w)) (w .number .0 + 1) ≡ 0 → w .at + 16 ≤ 8192

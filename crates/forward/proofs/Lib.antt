@@ -2,3 +2,7 @@
 pub mod Stands
 pub mod Appends
 pub mod Grows
+pub mod Carries
+pub mod Saves
+pub mod Finish
+pub mod Next

@@ -15,9 +15,9 @@ use Rattle.field.specs.Bytes.{Bytes, most4}
 use Rattle.field.proofs.Test.{pick-either}
 use Rattle.field.specs.declared.PageNo.{PageNo}
 use Rattle.field.specs.declared.UnitNo.{UnitNo}
-use Rattle.log.specs.Record.{Begin, Rec, LE}
+use Rattle.log.specs.Record.{Begin, saves, Rec, LE}
 use Rattle.log.specs.Plan.{Step, takeOut, bringIn, point, close, gather, removals, others, replacing, compactPlan, movePlan, swapPlan, plan}
-use Rattle.log.specs.Log.{Open, State, beginOk, readBegin, Log, readLog, atEnd}
+use Rattle.log.specs.Log.{Open, State, savesAt, beginOk, readBegin, Log, readLog, atEnd}
 use Rattle.log.specs.Scan.{keyIn, shown, lost, answer, scanned}
 use Rattle.log.specs.Steps.{stepOf}
 use Rattle.log.specs.declared.scan.Walk.{Walk}
@@ -26,30 +26,29 @@ use Rattle.log.specs.declared.steps.Planned.the-variants.{Out, In, Point, Close
 use Rattle.log.specs.Valid.{Does, does-point}
 use Rattle.log.proofs.Sound.{Done, Awaits}
 use Rattle.log.proofs.Read.{readLog-facts}
-use Rattle.log.proofs.Held.{awaits}
+use Rattle.log.proofs.Held.{awaits, saves-of}
 use Rattle.log.proofs.Toward.{Toward, Next, scanned-walk, toward-end, toward-next, shown-opened}
 use Rattle.unit.specs.Next.{keyBefore, skipped}
 use Rattle.unit.proofs.Places.{StepKeeps, Keeping, one-more, OpenKeeps, end-keeps}
 use Rattle.unit.specs.Again.{nextStep}
-use Rattle.forward.specs.Appends.{Opened, toCome}
+use Rattle.forward.specs.Appends.{Opened, Tidies, toCome}
 
 -- ---- the log that was read, and its open unit
 
-pub record Stands (l : List ℕ) (w : Walk) : Type 0 where
+pub record Ends (l : List ℕ) (w : Walk) : Type 0 where
   pub log : Log
   pub read : readLog l ≡ some log
   pub walk : w ≡ shown (atEnd log)
   pub unit : Open
   pub opened : atEnd log .opened ≡ some unit
   pub toward : Toward l (atEnd log) []
-  pub next : Next l (atEnd log) unit
-  pub keeps : Keeping (unit .todo)
+  pub bears : savesAt (drop (w .begin) l) ≡ saves (unit .start)
 
 none-lost : (l : List ℕ) → readLog l ≡ none → (scanned 0 l) .walk .ok ≡ false
 unfolding scanned given answer lost
 none-lost l e = rw e
 
-by-read : (l : List ℕ) (w : Walk) → Bytes l → Opened l w → (o : Option Log) → readLog l ≡ o → Stands l w
+by-read : (l : List ℕ) (w : Walk) → Bytes l → Opened l w → (o : Option Log) → readLog l ≡ o → Ends l w
 by-read l w b h none e = absurd (false≢true (sym (none-lost l e) ∙ sym (ap (λ (x : Walk). x .ok) (h .walk)) ∙ h .ok))
 by-read l w b h (some g) e =
     let q : w ≡ shown (atEnd g) = h .walk ∙ scanned-walk 0 l g e in
@@ -62,12 +61,39 @@ by-read l w b h (some g) e =
       unit = o .unit;
       opened = o .is;
       toward = t;
-      next = toward-next t (o .is);
-      keeps = subst OpenKeeps (o .is) (end-keeps g (readLog-facts l g e .good b));
+      bears = ap (λ (x : Walk). savesAt (drop (x .begin) l)) q ∙ sym (ap saves (t .holds .anchored (o .unit) (o .is) .start) ∙ saves-of (atEnd g .unit) _);
     }
 
-pub stands : (l : List ℕ) (w : Walk) → Bytes l → Opened l w → Stands l w
-stands l w b h = by-read l w b h (readLog l) refl
+pub ends : (l : List ℕ) (w : Walk) → Bytes l → Opened l w → Ends l w
+ends l w b h = by-read l w b h (readLog l) refl
+
+-- the same of a unit that tidies, with its steps to come
+pub record Stands (l : List ℕ) (w : Walk) : Type 0 where
+  pub log : Log
+  pub read : readLog l ≡ some log
+  pub walk : w ≡ shown (atEnd log)
+  pub unit : Open
+  pub opened : atEnd log .opened ≡ some unit
+  pub toward : Toward l (atEnd log) []
+  pub plain : saves (unit .start) ≡ false
+  pub next : Next l (atEnd log) unit
+  pub keeps : Keeping (unit .todo)
+
+pub stands : (l : List ℕ) (w : Walk) → Bytes l → Tidies l w → Stands l w
+stands l w b h =
+    let e : Ends l w = ends l w b (h .opened) in
+    let v : saves (e .unit .start) ≡ false = sym (e .bears) ∙ h .plain in
+    record {
+      log = e .log;
+      read = e .read;
+      walk = e .walk;
+      unit = e .unit;
+      opened = e .opened;
+      toward = e .toward;
+      plain = v;
+      next = toward-next (e .toward) (e .opened) v;
+      keeps = subst OpenKeeps (e .opened) (end-keeps (e .log) (readLog-facts l (e .log) (e .read) .good b)) .0;
+    }
 
 -- ---- by numbers
 
@@ -236,17 +262,18 @@ plan-behind g u =
     let b : ℕ = getD (g .leaves) 1 0 in
     let c : List Step = compactPlan p (g .dest) (g .leaves) in
     let m : List Step = movePlan p a (g .dest) in
-    pick-either (λ (xs : List Step). Behind u (xs ++ end)) (eqb (g .type) 1) c (pick (eqb (g .type) 2) (swapPlan p q a b) m)
+    let n : List Step = pick (saves g) [] m in
+    pick-either (λ (xs : List Step). Behind u (xs ++ end)) (eqb (g .type) 1) c (pick (eqb (g .type) 2) (swapPlan p q a b) n)
     (behind-plain u (c ++ end) (plains-append (plains-compact p (g .dest) (g .leaves)) last))
-    (pick-either (λ (xs : List Step). Behind u (xs ++ end)) (eqb (g .type) 2) (swapPlan p q a b) m (swap-behind p q a b (g .unit) u)
-    (behind-plain u (m ++ end) (plains-append (plains-move p a (g .dest)) last)))
+    (pick-either (λ (xs : List Step). Behind u (xs ++ end)) (eqb (g .type) 2) (swapPlan p q a b) n (swap-behind p q a b (g .unit) u)
+    (behind-plain u (n ++ end) (plains-append (pick-either Plains (saves g) [] m nil (plains-move p a (g .dest))) last)))
 
 -- ---- so the record before is an LM, and its key is known
 
 pub record Before (did : List Rec) : Type 0 where
   pub key : ℕ
   pub is : keyBefore did ≡ some key
-  pub in-numbers : keyIn (getD did 0 (LE 0)) ≡ key
+  pub in-numbers : keyIn (getD did 0 (LE 0 [])) ≡ key
 
 drop-past : (past xs p : List Step) → reverseAux past xs ≡ p → drop (length past) p ≡ xs
 drop-past past xs p e = rw (← e, reverseAux-eq past xs) (drop-at (reverse past) xs (length past) (length-reverse past))
@@ -275,14 +302,14 @@ by-past u xs p base old new (Done.cons {x = x} {past = past} {did = did} d h) e 
     let v : getD p (suc (length past) - 1) (close u) ≡ x = ap (λ (i : ℕ). getD p i (close u)) j ∙ head-at (length past) p (close u) x ys (drop-past past (x ∷ ys) p e) in
     did-point did d (subst Points v (f (suc (length past)) base old new q .1))
 
-key-is : (s : State) (o : Open) → s .opened ≡ some o → (shown s) .key ≡ keyIn (getD (o .did) 0 (LE 0))
+key-is : (s : State) (o : Open) → s .opened ≡ some o → (shown s) .key ≡ keyIn (getD (o .did) 0 (LE 0 []))
 unfolding shown given
 key-is s o e = rw e
 
 module _ {l : List ℕ} {w : Walk} (s : Stands l w) where
   before : (base old new : ℕ) → nextStep l w ≡ point base old new true → Before (s .unit .did)
   before base old new e =
-      let a : Awaits (atEnd (s .log) .unit) (s .unit) = awaits (atEnd (s .log)) (s .unit) (s .toward .holds .sound) (s .opened) in
+      let a : Awaits (atEnd (s .log) .unit) (s .unit) = awaits (atEnd (s .log)) (s .unit) (s .toward .holds .sound) (s .opened) (s .plain) in
       by-past 0 (s .next .others) (plan (s .unit .start)) base old new (a .done)
       (subst (λ (ys : List Step). reverseAux (a .past) ys ≡ plan (s .unit .start)) (todo-is s (point base old new true) e) (a .whole)) (plan-behind (s .unit .start) 0)
 

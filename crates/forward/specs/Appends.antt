@@ -1,18 +1,19 @@
--- One step of the unit that is open at a log's end, by what one pass over the log knows there: the inner contract that `step` and
+-- One record more of the unit that is open at a log's end, by what one pass over the log knows there: the inner contract that `step` and
 -- recovery's finishing rest on. Assumes nothing.
 use Prim.Native.Nat.{ℕ}
 use mathlib.Core.Path.{_≡_}
-use mathlib.Core.Bool.{true}
+use mathlib.Core.Bool.{true, false}
 use mathlib.Core.List.{List, [], _∷_}
 use lib.ListN.{drop}
 use lib.Dec.{leb}
-use Rattle.field.specs.Test.{need, given}
+use Rattle.field.specs.Test.{pick, need, given}
 use Rattle.field.specs.Bytes.{most4}
+use Rattle.log.specs.Record.{saves}
 use Rattle.log.specs.Plan.{Step, plan}
-use Rattle.log.specs.Log.{State, readBegin, readLog, atEnd}
+use Rattle.log.specs.Log.{Open, State, savesAt, readBegin, readLog, atEnd}
 use Rattle.log.specs.Scan.{scanned}
 use Rattle.log.specs.declared.scan.Walk.{Walk}
-use Rattle.store.specs.Calls.{logLength, Went, stopped, went, todoOf, append}
+use Rattle.store.specs.Calls.{logLength, Went, stopped, went, append, conclude, lackedBy}
 
 -- ---- the step, and what it leaves
 
@@ -21,9 +22,13 @@ unfoldable pub appendFirst : (todo : List Step) → (s : State) (w l : List ℕ)
 appendFirst [] s w l = stopped 10
 appendFirst (x ∷ xs) s w l = append x xs s w l
 
--- the next step of the unit that is open at the end of the log l
+-- one record of the open unit: the first that a put or delete lacks, another unit's next step
+unfoldable pub appendOpen : Open → (s : State) (w l : List ℕ) → Went
+appendOpen o s w l = pick (saves (o .start)) (conclude 1 (lackedBy o s w) s w l) (appendFirst (o .todo) s w l)
+
+-- the next record of the unit that is open at the end of the log l
 unfoldable pub appendNext : (w l : List ℕ) → Went
-appendNext w l = given (readLog l) (stopped 2) (λ g. appendFirst (todoOf (atEnd g .opened)) (atEnd g) w l)
+appendNext w l = given (readLog l) (stopped 2) (λ g. given (atEnd g .opened) (stopped 10) (λ o. appendOpen o (atEnd g) w l))
 
 -- the reply, the work pages and the log; where it stopped, the pages w and the log l stay
 unfoldable pub replyIn : Went → ℕ
@@ -51,7 +56,12 @@ pub record Opened (l : List ℕ) (w : Walk) : Type 0 where
   pub ok : w .ok ≡ true
   pub unit : w .opened ≡ true
 
--- the unit's steps to come
+-- the same, and the unit tidies: it is no put or delete
+pub record Tidies (l : List ℕ) (w : Walk) : Type 0 where
+  pub opened : Opened l w
+  pub plain : savesAt (drop (w .begin) l) ≡ false
+
+-- its steps to come
 unfoldable pub toCome : (l : List ℕ) → Walk → List Step
 toCome l w = drop (w .done) (plan (readBegin (w .unit .0) (drop (w .begin) l)))
 

@@ -1,5 +1,5 @@
-// One step of the unit that is open at the log's end: its record is appended to the log and its page change made, or a reply of tests 5, 6
-// and 7 and nothing changed. `step` and recovery's finishing are made of it. Each function is lent the log whole, and w is what one pass over
+// One record more of the unit that is open at the log's end: it is appended to the log and its page changes made, or a reply of its tests
+// and nothing changed. `step` and recovery's finishing are made of it. Each function is lent the log whole, and w is what one pass over
 // it knows at its end.
 ghost use mathlib.Core.Path.{_≡_};
 ghost use Prim.Native.Nat.{_+_};
@@ -7,17 +7,19 @@ ghost use lib.ListN.{length};
 ghost use Rattle.log.specs.Plan.{takeOut, bringIn, point, close};
 ghost use Rattle.unit.specs.Next.{room};
 ghost use Rattle.unit.specs.Again.{nextStep};
-ghost use Rattle.forward.specs.Appends.{appendNext, Goes, Opened, toCome, tested};
+ghost use Rattle.forward.specs.Appends.{appendNext, Goes, Opened, Tidies, toCome, tested};
 use field::LogNo;
 use field::PageNo;
 use field::UnitNo;
 use log::kind;
+use log::opening;
 use log::scan::Walk;
 use log::source;
 use log::steps;
 use log::steps::Planned;
 use log::writing;
 use page::form;
+use resuming::carrying;
 use tree::well;
 use unit::apply;
 use unit::entry;
@@ -26,7 +28,7 @@ use unit::room;
 
 // Tests 6 and 7: the log can hold what remains of the unit, and the record has a number. The reply, 0 where both hold.
 fn admitted(work: &[u8], log: &[u8], w: Walk) -> u8
-    requires { ⌜ (length (now work) ≡ 16384) × (length (now log) ≡ 8192) × Opened (now log) w ⌝ }
+    requires { ⌜ (length (now work) ≡ 16384) × (length (now log) ≡ 8192) × Tidies (now log) w ⌝ }
     ensures { λ r. ⌜ r ≡ tested (w .at + room (now (work .entry)) (toCome (now (log .entry)) w)) (w .number .0 + 1) ⌝ }
 {
     let begin = w.begin;
@@ -42,7 +44,7 @@ fn admitted(work: &[u8], log: &[u8], w: Walk) -> u8
 
 // An LO: page org must be a leaf; it carries all its records.
 fn append_out(work: &mut [u8], log: &mut [u8], w: Walk, org: PageNo, dest: PageNo) -> u8
-    requires { ⌜ (length (now work) ≡ 16384) × (length (now log) ≡ 8192) × Opened (now log) w × (nextStep (now log) w ≡ takeOut (org .0) (dest .0)) ⌝ }
+    requires { ⌜ (length (now work) ≡ 16384) × (length (now log) ≡ 8192) × Tidies (now log) w × (nextStep (now log) w ≡ takeOut (org .0) (dest .0)) ⌝ }
     ensures { λ r. ⌜ Goes (appendNext (now (work .entry)) (now (log .entry))) (now (work .entry)) (now (log .entry)) r (now (work .exit)) (now (log .exit)) ⌝ }
 {
     let from = 256 * (org.0 as usize);
@@ -64,7 +66,7 @@ fn append_out(work: &mut [u8], log: &mut [u8], w: Walk, org: PageNo, dest: PageN
 
 // An LI: the records are those of its LO, which stands in the log `back` records before.
 fn append_in(work: &mut [u8], log: &mut [u8], w: Walk, org: PageNo, dest: PageNo, back: u32) -> u8
-    requires { ⌜ (length (now work) ≡ 16384) × (length (now log) ≡ 8192) × Opened (now log) w × (nextStep (now log) w ≡ bringIn (org .0) (dest .0) back) ⌝ }
+    requires { ⌜ (length (now work) ≡ 16384) × (length (now log) ≡ 8192) × Tidies (now log) w × (nextStep (now log) w ≡ bringIn (org .0) (dest .0) back) ⌝ }
     ensures { λ r. ⌜ Goes (appendNext (now (work .entry)) (now (log .entry))) (now (work .entry)) (now (log .entry)) r (now (work .exit)) (now (log .exit)) ⌝ }
 {
     let k = source::source_rows(w, back);
@@ -93,7 +95,7 @@ fn append_point(
     new: PageNo,
     other: bool,
 ) -> u8
-    requires { ⌜ (length (now work) ≡ 16384) × (length (now log) ≡ 8192) × Opened (now log) w × (nextStep (now log) w ≡ point (base .0) (old .0) (new .0) other) ⌝ }
+    requires { ⌜ (length (now work) ≡ 16384) × (length (now log) ≡ 8192) × Tidies (now log) w × (nextStep (now log) w ≡ point (base .0) (old .0) (new .0) other) ⌝ }
     ensures { λ r. ⌜ Goes (appendNext (now (work .entry)) (now (log .entry))) (now (work .entry)) (now (log .entry)) r (now (work .exit)) (now (log .exit)) ⌝ }
 {
     let from = 256 * (base.0 as usize);
@@ -118,7 +120,7 @@ fn append_point(
 
 // An LE.
 fn append_close(work: &mut [u8], log: &mut [u8], w: Walk, unit: UnitNo) -> u8
-    requires { ⌜ (length (now work) ≡ 16384) × (length (now log) ≡ 8192) × Opened (now log) w × (nextStep (now log) w ≡ close (unit .0)) ⌝ }
+    requires { ⌜ (length (now work) ≡ 16384) × (length (now log) ≡ 8192) × Tidies (now log) w × (nextStep (now log) w ≡ close (unit .0)) ⌝ }
     ensures { λ r. ⌜ Goes (appendNext (now (work .entry)) (now (log .entry))) (now (work .entry)) (now (log .entry)) r (now (work .exit)) (now (log .exit)) ⌝ }
 {
     let reply = admitted(work, log, w);
@@ -129,9 +131,9 @@ fn append_close(work: &mut [u8], log: &mut [u8], w: Walk, unit: UnitNo) -> u8
     0
 }
 
-// The next step, by its kind.
-pub fn append(work: &mut [u8], log: &mut [u8], w: Walk) -> u8
-    requires { ⌜ (length (now work) ≡ 16384) × (length (now log) ≡ 8192) × Opened (now log) w ⌝ }
+// The next step of a unit that tidies, by its kind.
+fn append_step(work: &mut [u8], log: &mut [u8], w: Walk) -> u8
+    requires { ⌜ (length (now work) ≡ 16384) × (length (now log) ≡ 8192) × Tidies (now log) w ⌝ }
     ensures { λ r. ⌜ Goes (appendNext (now (work .entry)) (now (log .entry))) (now (work .entry)) (now (log .entry)) r (now (work .exit)) (now (log .exit)) ⌝ }
 {
     let begin = w.begin;
@@ -147,4 +149,16 @@ pub fn append(work: &mut [u8], log: &mut [u8], w: Walk) -> u8
         } => append_point(work, log, w, base, old, new, other),
         Planned::Close { unit } => append_close(work, log, w, unit),
     }
+}
+
+// The next record of the open unit, which tidies or is a put or delete.
+pub fn append(work: &mut [u8], log: &mut [u8], w: Walk) -> u8
+    requires { ⌜ (length (now work) ≡ 16384) × (length (now log) ≡ 8192) × Opened (now log) w ⌝ }
+    ensures { λ r. ⌜ Goes (appendNext (now (work .entry)) (now (log .entry))) (now (work .entry)) (now (log .entry)) r (now (work .exit)) (now (log .exit)) ⌝ }
+{
+    let begin = w.begin;
+    if opening::saves(&log[begin..]) {
+        return carrying::append_saved(work, log, w);
+    }
+    append_step(work, log, w)
 }

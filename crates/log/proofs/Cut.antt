@@ -8,10 +8,10 @@ use mathlib.Core.Option.{some, Option·some-injective}
 use lib.ListN.{length, take, drop, take-append-drop, length-take, length-append}
 use lib.Seq.{take-at, take-take, take-append-le, take-length}
 use Rattle.field.specs.Bytes.{zeroes}
-use Rattle.log.specs.Record.{Check, Rec, encodeCheck, encodeAll}
+use Rattle.log.specs.Record.{Check, Rec, encodeCheck, encodeAll, sizes}
 use Rattle.log.specs.Log.{Log, readLog, atEnd, encodeLog, lastForced}
 use Rattle.log.proofs.Record.{Sized}
-use Rattle.log.proofs.State.{sizes, Every, every-take, encodeAll-append, at-atEnd, number-atEnd, length-encodeLog}
+use Rattle.log.proofs.State.{Every, every-take, encodeAll-append, at-atEnd, number-atEnd, length-encodeLog}
 use Rattle.log.specs.Valid.{Valid, Small, Good}
 use Rattle.log.proofs.Valid.{valid-take, valid-sized}
 use Rattle.log.proofs.Append.{grown}

@@ -14,6 +14,7 @@ pub mod Turned
 pub mod Ways
 pub mod Signs
 pub mod Held
+pub mod Images
 pub mod Laid
 pub mod Pass
 pub mod Stand
@@ -21,6 +22,7 @@ pub mod State
 pub mod Begin
 pub mod Plan
 pub mod Valid
+pub mod Filed
 pub mod Sound
 pub mod Read
 pub mod Write

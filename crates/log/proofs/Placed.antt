@@ -9,15 +9,15 @@ use mathlib.Core.List.{List, [], _∷_, _++_, append-assoc}
 use lib.ListN.{length, drop, getD, length-append, length-drop, List·getD-eq-default}
 use lib.Seq.{getD-drop}
 use lib.Dec.{eqb, leb}
-use borrow.Author.Tests.{eq-eqb, ne-eqb, eqb-true, eqb-false, leb-true, not-true}
+use borrow.Author.Tests.{eq-eqb, ne-eqb, eqb-true, eqb-false, leb-true, lt-leb, not-true}
 use Rattle.field.specs.Test.{both, all, pick}
 use Rattle.field.specs.Bytes.{le2}
 use Rattle.field.proofs.Test.{all-head, all-tail, pick-true, pick-false, pick-either, both-1, both-2}
 use Rattle.field.proofs.Part.{split}
 use Rattle.field.proofs.Number.{le2-drop}
-use Rattle.log.specs.Record.{Begin}
+use Rattle.log.specs.Record.{Begin, saves}
 use Rattle.log.specs.Plan.{Step, takeOut, bringIn, point, close, gather, removals, others, replacing, compactPlan, movePlan, swapPlan, plan}
-use Rattle.log.specs.Log.{listed, differ, compactOk, swapOk, moveOk, typeOk, beginOk, readFields, readBegin}
+use Rattle.log.specs.Log.{listed, differ, compactOk, swapOk, moveOk, typeOk, beginOk, savesAt, readFields, readBegin}
 use Rattle.log.proofs.Begin.{Limits, beginOk-limits}
 use Rattle.log.proofs.Fields.{length-readFields, getD-readFields}
 
@@ -269,11 +269,11 @@ module _ (m : List ℕ) (u : ℕ) (ok : beginOk (readBegin u m) ≡ true) where
     pub base : getD m 18 0 ≡ 1
     pub leaf : getD m 19 0 ≡ 1
 
-  pub is-move : (getD m 16 0 ≡ 1 → ⊥) → (getD m 16 0 ≡ 2 → ⊥) → Moves
-  unfolding readBegin moveOk typeOk
-  is-move f g =
+  pub is-move : savesAt m ≡ false → (getD m 16 0 ≡ 1 → ⊥) → (getD m 16 0 ≡ 2 → ⊥) → Moves
+  unfolding readBegin moveOk typeOk saves savesAt
+  is-move v f g =
       let e : both (eqb (getD m 16 0) 3) (moveOk (readBegin u m)) ≡ true =
-      sym (pick-false _ _ _ (ne-eqb (getD m 16 0) 1 f) ∙ pick-false _ _ _ (ne-eqb (getD m 16 0) 2 g)) ∙ typed in
+      sym (pick-false _ _ _ (ne-eqb (getD m 16 0) 1 f) ∙ pick-false _ _ _ (ne-eqb (getD m 16 0) 2 g) ∙ pick-false _ _ _ v) ∙ typed in
       let k : moveOk (readBegin u m) ≡ true = both-2 _ _ e in
       let nb : length (readFields (getD m 18 0) (drop 20 m)) ≡ getD m 18 0 = length-readFields (getD m 18 0) (drop 20 m) in
       let nl : length (readFields (getD m 19 0) (drop 24 m)) ≡ getD m 19 0 = length-readFields (getD m 19 0) (drop 24 m) in
@@ -372,18 +372,19 @@ module _ (m : List ℕ) (u i : ℕ) (ok : beginOk (readBegin u m) ≡ true) (r :
       let n : eqb t 1 ≡ false = ne-eqb t 1 (λ z. omega arith) in
       e ∙ rw (← q, n, eq-eqb t 2 h, e0, e1, a0, b0)
 
-  step-move : (p a d : ℕ) → p ≡ le2 m 20 → a ≡ le2 m 24 → d ≡ le2 m 40 → r ≡ getD (movePlan p a d ++ (close u ∷ [])) i (close u) → (t ≡ 1 → ⊥) → (t ≡ 2 → ⊥)
+  step-move : savesAt m ≡ false → (p a d : ℕ) → p ≡ le2 m 20 → a ≡ le2 m 24 → d ≡ le2 m 40 → r ≡ getD (movePlan p a d ++ (close u ∷ [])) i (close u) → (t ≡ 1 → ⊥) → (t ≡ 2 → ⊥)
       → r ≡ getD (plan (readBegin u m)) i (close u)
-  unfolding plan readBegin pick
-  step-move p a d pp pa pd e f g =
-      let x : Moves m u ok = is-move m u ok (λ z. f (q ∙ z)) (λ z. g (q ∙ z)) in
+  unfolding plan readBegin pick saves savesAt
+  step-move v p a d pp pa pd e f g =
+      let x : Moves m u ok = is-move m u ok v (λ z. f (q ∙ z)) (λ z. g (q ∙ z)) in
       let e0 : getD (readFields (getD m 18 0) (drop 20 m)) 0 0 ≡ p = base-at m 0 0 (omega (arith, x .base)) ∙ sym pp in
       let a0 : getD (readFields (getD m 19 0) (drop 24 m)) 0 0 ≡ a = leaf-at m 0 (omega (arith, x .leaf)) ∙ sym pa in
-      e ∙ rw (← q, ne-eqb t 1 f, ne-eqb t 2 g, e0, a0, pd)
+      let w : leb 4 t ≡ false = rw q v in
+      e ∙ rw (← q, ne-eqb t 1 f, ne-eqb t 2 g, w, e0, a0, pd)
 
-  pub step-other! : (p a d : ℕ) → p ≡ le2 m 20 → a ≡ le2 m 24 → d ≡ le2 m 40 → r ≡ getD (movePlan p a d ++ (close u ∷ [])) i (close u) → eqb (getD m 16 0) 1 ≡ false → (t ≡ 2 → ⊥)
+  pub step-other! : savesAt m ≡ false → (p a d : ℕ) → p ≡ le2 m 20 → a ≡ le2 m 24 → d ≡ le2 m 40 → r ≡ getD (movePlan p a d ++ (close u ∷ [])) i (close u) → eqb (getD m 16 0) 1 ≡ false → (t ≡ 2 → ⊥)
       → r ≡ getD (plan (readBegin u m)) i (close u)
-  step-other! p a d pp pa pd e f g = step-move p a d pp pa pd e (λ z. false≢true (sym f ∙ eq-eqb (getD m 16 0) 1 (sym q ∙ z))) g
+  step-other! v p a d pp pa pd e f g = step-move v p a d pp pa pd e (λ z. false≢true (sym f ∙ eq-eqb (getD m 16 0) 1 (sym q ∙ z))) g
 
 -- ---- how many steps
 
@@ -407,23 +408,24 @@ list-length : (base dest u : ℕ) (l : List ℕ) → 1 ≤ length l → pick (eq
 list-length base dest u [] h f g s e = absurd (not-suc-le-zero h)
 list-length base dest u (c ∷ ps) h f g s e = compact-length base dest u c ps (f, g) s e
 
-module _ (m : List ℕ) (u : ℕ) (ok : beginOk (readBegin u m) ≡ true) (t : ℕ) (q : t ≡ getD m 16 0) where
+module _ (m : List ℕ) (u : ℕ) (ok : beginOk (readBegin u m) ≡ true) (v : savesAt m ≡ false) (t : ℕ) (q : t ≡ getD m 16 0) where
   pub count-swap! : t ≡ 2 → 7 ≡ length (plan (readBegin u m))
   unfolding plan readBegin pick swapPlan
   count-swap! h = let n : eqb t 1 ≡ false = ne-eqb t 1 (λ z. omega arith) in rw (← q, n, eq-eqb t 2 h)
 
   pub count-move! : t ≡ 3 → 4 ≡ length (plan (readBegin u m))
-  unfolding plan readBegin pick movePlan
+  unfolding plan readBegin pick movePlan saves
   count-move! h =
       let n : eqb t 1 ≡ false = ne-eqb t 1 (λ z. omega arith) in
       let k : eqb t 2 ≡ false = ne-eqb t 2 (λ z. omega arith) in
-      rw (← q, n, k)
+      let j : leb 4 t ≡ false = lt-leb 4 t (omega arith) in
+      rw (← q, n, k, j)
 
   one-type : (t ≡ 2 → ⊥) → (t ≡ 3 → ⊥) → t ≡ 1
   one-type f g =
       split t 1
-      (λ h. absurd (g (q ∙ is-move m u ok (λ z. omega arith) (λ z. omega arith) .type)))
-      (λ h. split 1 t (λ k. absurd (g (q ∙ is-move m u ok (λ z. omega arith) (λ z. f (q ∙ z)) .type))) (λ k. omega arith))
+      (λ h. absurd (g (q ∙ is-move m u ok v (λ z. omega arith) (λ z. omega arith) .type)))
+      (λ h. split 1 t (λ k. absurd (g (q ∙ is-move m u ok v (λ z. omega arith) (λ z. f (q ∙ z)) .type))) (λ k. omega arith))
 
   pub count-compact! : (c d k s : ℕ) → c ≡ le2 m 24 → d ≡ le2 m 40 → k ≡ getD m 19 0 → s ≡ pick (eqb c d) 1 0 → (t ≡ 2 → ⊥) → (t ≡ 3 → ⊥)
       → 3 * k + 1 - 3 * s ≡ length (plan (readBegin u m))

@@ -1,13 +1,16 @@
 -- What holds of the steps that a begin record gives: the last and no other ends the unit, and each LI brings in what an LO of the same
 -- pages took out before it. Assumes nothing.
-use Prim.Native.Nat.{ℕ, _-_}
-use mathlib.Core.Path.{_≡_, refl}
+use Prim.Native.Nat.{ℕ, _-_, _≤_}
+use native.Mathlib.Omega.{arith}
+use mathlib.Core.Path.{_≡_, refl, ap, _∙_}
 use mathlib.Core.Bool.{Bool, true, false}
 use mathlib.Core.List.{List, [], _∷_, _++_, append-assoc}
 use lib.ListN.{getD}
-use lib.Dec.{eqb}
+use lib.Dec.{eqb, leb}
+use borrow.Author.Tests.{ne-eqb, leb-true}
 use Rattle.field.specs.Test.{pick}
-use Rattle.log.specs.Record.{Begin}
+use Rattle.field.proofs.Test.{pick-true, pick-false}
+use Rattle.log.specs.Record.{Begin, saves}
 use Rattle.log.specs.Plan.{Step, takeOut, bringIn, point, close, gather, removals, others, replacing, compactPlan, movePlan, swapPlan, plan}
 
 -- ---- the steps of a unit: any but LE, then LE
@@ -121,9 +124,10 @@ plan-whole g =
     let a : ℕ = getD (g .leaves) 0 0 in
     let b : ℕ = getD (g .leaves) 1 0 in
     let xs : List Step = close (g .unit) ∷ [] in
-    pick-on (eqb (g .type) 1) (compactPlan p (g .dest) (g .leaves)) (pick (eqb (g .type) 2) (swapPlan p q a b) (movePlan p a (g .dest))) xs
+    pick-on (eqb (g .type) 1) (compactPlan p (g .dest) (g .leaves)) (pick (eqb (g .type) 2) (swapPlan p q a b) (pick (saves g) [] (movePlan p a (g .dest)))) xs
     (compact-on p (g .dest) (g .leaves) xs close-whole)
-    (pick-on (eqb (g .type) 2) (swapPlan p q a b) (movePlan p a (g .dest)) xs (swap-on p q a b xs close-whole) (move-on p a (g .dest) xs close-whole))
+    (pick-on (eqb (g .type) 2) (swapPlan p q a b) (pick (saves g) [] (movePlan p a (g .dest))) xs (swap-on p q a b xs close-whole)
+    (pick-on (saves g) [] (movePlan p a (g .dest)) xs close-whole (move-on p a (g .dest) xs close-whole)))
 
 -- a plan ends its unit, at its end
 pub plan-ending : (g : Begin) → Ending (g .unit) (plan g)
@@ -132,3 +136,17 @@ plan-ending g = plan-whole g .ending
 -- its LIs have their LOs
 pub plan-fed : (g : Begin) → Fed [] (plan g)
 plan-fed g = plan-whole g .fed []
+
+-- a put or delete has no step by itself but its end
+pub plan-saves : (g : Begin) → saves g ≡ true → plan g ≡ close (g .unit) ∷ []
+unfolding plan saves
+plan-saves g h =
+    let k : 4 ≤ g .type = leb-true 4 (g .type) h in
+    let a : eqb (g .type) 1 ≡ false = ne-eqb (g .type) 1 (λ e. omega arith) in
+    let b : eqb (g .type) 2 ≡ false = ne-eqb (g .type) 2 (λ e. omega arith) in
+    ap (λ (x : List Step). x ++ (close (g .unit) ∷ [])) (pick-false _ _ _ a ∙ pick-false _ _ _ b ∙ pick-true _ _ _ h)
+
+-- and is no compact
+pub saves-type : (g : Begin) → saves g ≡ true → eqb (g .type) 1 ≡ false
+unfolding saves
+saves-type g h = let k : 4 ≤ g .type = leb-true 4 (g .type) h in ne-eqb (g .type) 1 (λ e. omega arith)

@@ -16,13 +16,12 @@ use Rattle.field.specs.Bytes.{put, bytes2, bytes4, zeroes}
 use Rattle.field.proofs.Part.{put-next, length-put}
 use Rattle.field.proofs.Number.{length-bytes2}
 use Rattle.page.specs.Page.{joined, rowsOf}
-use Rattle.page.specs.Each.{Each}
 use Rattle.page.proofs.Rows.{joined-rowsOf, length-rowsOf}
-use Rattle.log.specs.Record.{Kind, check, begin, out, into, modify, end, lengthOf, Check, Begin, Rec, LB, LO, LI, LM, LE, kindOf, carried, size}
+use Rattle.log.specs.Record.{Kind, check, begin, into, modify, image, lengthOf, LB, LO, LI, LM, LG, LE, kindOf, carried, size}
 use Rattle.log.specs.Record.{header, fields, lkBytes, encodeCheck, newKey, body, previous, encode}
 use Rattle.log.specs.Table.{kindAt, kinds}
-use Rattle.log.specs.Write.{unitHead, paged, inBytes, lkOf, checkOf, beginOf}
-use Rattle.log.proofs.Record.{length-fields, length-encode}
+use Rattle.log.specs.Write.{unitHead, paged, inBytes, lkOf, checkOf, beginOf, saveOf, startOf, imageOf, imageHead}
+use Rattle.log.proofs.Record.{length-fields}
 
 -- the runs bs written one behind the other, the first at the offset at + o
 abbrev pub puts : (at o : ℕ) → List (List ℕ) → List ℕ → List ℕ
@@ -62,11 +61,11 @@ module _ (l : List ℕ) (at : ℕ) where
   header-puts c long n before h =
       rw (← puts-all at ((76 ∷ c .sign ∷ []) ∷ bytes2 long ∷ bytes4 n ∷ bytes4 before ∷ []) l (header c long n before) refl h, add-zero at)
 
-  pub unit-puts : (c : Kind) (n before unit : ℕ) → at + 16 ≤ length l
-      → put (at + 12) (bytes4 unit) (put at (header c (lengthOf c 0) n before) l) ≡ put at (unitHead c n before unit) l
+  pub unit-puts : (c : Kind) (k n before unit : ℕ) → at + 16 ≤ length l
+      → put (at + 12) (bytes4 unit) (put at (header c (lengthOf c k) n before) l) ≡ put at (unitHead c k n before unit) l
   unfolding unitHead header bytes2 bytes4 joined
-  unit-puts c n before unit h =
-      rw (← puts-all at (header c (lengthOf c 0) n before ∷ bytes4 unit ∷ []) l (unitHead c n before unit) refl h, add-zero at)
+  unit-puts c k n before unit h =
+      rw (← puts-all at (header c (lengthOf c k) n before ∷ bytes4 unit ∷ []) l (unitHead c k n before unit) refl h, add-zero at)
 
   pub paged-puts : (d : Kind) (k n a b c : ℕ) → at + 20 ≤ length l
       → put (at + 18) (bytes2 0) (put (at + 16) (bytes2 c) (put (at + 14) (bytes2 b) (put (at + 12) (bytes2 a) (put at (header d (lengthOf d k) n (n - 1)) l))))
@@ -113,7 +112,7 @@ check-puts l n unit there key h =
     rw e (puts-all 0 (header check (lengthOf check 0) n 0 ∷ bytes4 unit ∷ bytes4 (pick there 1 0) ∷ bytes4 (pick there key 0) ∷ []) l _ refl k)
 
 -- an LE is a header and its unit number
-pub encode-end : (n unit : ℕ) → encode n (LE unit) ≡ unitHead (kindAt 5) n (n - 1) unit
+pub encode-end : (n unit : ℕ) → encode n (LE unit []) ≡ unitHead (kindAt 5) 0 n (n - 1) unit
 unfolding encode body previous kindOf size carried unitHead kindAt kinds
 encode-end n unit = refl
 
@@ -132,6 +131,13 @@ fields-more zero (p ∷ ps) = append-nil (bytes2 p)
 fields-more (suc i) [] = ap (λ (x : List ℕ). bytes2 0 ++ x) (fields-more i []) ∙ sym (append-assoc (bytes2 0) (fields i []) (bytes2 0))
 fields-more (suc i) (p ∷ ps) = ap (λ (x : List ℕ). bytes2 p ++ x) (fields-more i ps) ∙ sym (append-assoc (bytes2 p) (fields i ps) (bytes2 (getD ps i 0)))
 
+pub length-start : (k n unit kind fill : ℕ) (bs ls : List ℕ) (dest : ℕ) → length (startOf k n unit kind fill bs ls dest) ≡ 44
+unfolding startOf unitHead header bytes2 bytes4
+length-start k n unit kind fill bs ls dest =
+    let a : length (fields 2 bs ++ (fields 8 ls ++ (bytes2 dest ++ bytes2 0))) ≡ 24 =
+    length-append (fields 2 bs) _ ∙ rw (length-append (fields 8 ls) (bytes2 dest ++ bytes2 0), length-fields 2 bs, length-fields 8 ls) (unfold bytes2 in refl) in
+    rw a
+
 -- the loop that writes fields: its start, a turn, its end
 module _ (d : List ℕ) (at : ℕ) (ps : List ℕ) where
   pub fields-none! : d ≡ put at (fields 0 ps) d
@@ -149,22 +155,71 @@ module _ (d : List ℕ) (at : ℕ) (ps : List ℕ) where
   pub fields-all! : (i n : ℕ) (s : List ℕ) → s ≡ put at (fields i ps) d → i ≤ n → n ≤ i → s ≡ put at (fields n ps) d
   fields-all! i n s e h k = let z : i ≡ n = omega arith in e ∙ rw z
 
-pub begin-puts : (l : List ℕ) (at n unit kind fill : ℕ) (bs ls : List ℕ) (dest : ℕ) → at + 44 ≤ length l
+-- all of an LB but the record that it carries
+pub start-puts : (l : List ℕ) (at k n unit kind fill : ℕ) (bs ls : List ℕ) (dest : ℕ) → at + 44 ≤ length l
     → put (at + 42) (bytes2 0) (put (at + 40) (bytes2 dest) (put (at + 24) (fields 8 ls) (put (at + 20) (fields 2 bs)
-    (put (at + 16) (kind ∷ fill ∷ length bs ∷ length ls ∷ []) (put at (unitHead (kindAt 1) n 0 unit) l)))))
-    ≡ put at (encode n (LB (beginOf unit kind fill bs ls dest))) l
-unfolding encode body previous kindOf size carried unitHead header bytes2 bytes4 joined kindAt kinds beginOf lengthOf
-begin-puts l at n unit kind fill bs ls dest h =
-    let g : Begin = beginOf unit kind fill bs ls dest in
-    let e : length (encode n (LB g)) ≡ 44 = length-encode n (LB g) Each.nil in
-    let runs : List (List ℕ) = unitHead begin n 0 unit ∷ (kind ∷ fill ∷ length bs ∷ length ls ∷ []) ∷ fields 2 bs ∷ fields 8 ls ∷ bytes2 dest ∷ bytes2 0 ∷ [] in
-    let q : puts at 0 runs l ≡ put at (encode n (LB g)) l = puts-all at runs l (encode n (LB g)) refl (omega arith) in
+    (put (at + 16) (kind ∷ fill ∷ length bs ∷ length ls ∷ []) (put at (unitHead (kindAt 1) k n 0 unit) l)))))
+    ≡ put at (startOf k n unit kind fill bs ls dest) l
+unfolding startOf unitHead header bytes2 bytes4 joined kindAt kinds lengthOf
+start-puts l at k n unit kind fill bs ls dest h =
+    let e : length (startOf k n unit kind fill bs ls dest) ≡ 44 = length-start k n unit kind fill bs ls dest in
+    let runs : List (List ℕ) = unitHead begin k n 0 unit ∷ (kind ∷ fill ∷ length bs ∷ length ls ∷ []) ∷ fields 2 bs ∷ fields 8 ls ∷ bytes2 dest ∷ bytes2 0 ∷ [] in
+    let q : puts at 0 runs l ≡ put at (startOf k n unit kind fill bs ls dest) l = puts-all at runs l (startOf k n unit kind fill bs ls dest) refl (omega arith) in
     rw (add-zero at, length-fields 2 bs, length-fields 8 ls) at q
 
 -- the same, write by write
-pub begin-written : (l : List ℕ) (at n unit kind fill : ℕ) (bs ls : List ℕ) (dest : ℕ) → at + 44 ≤ length l → (r1 r2 r3 r4 r5 r6 : List ℕ)
-    → r1 ≡ put at (unitHead (kindAt 1) n 0 unit) l → r2 ≡ put (at + 16) (kind ∷ fill ∷ length bs ∷ length ls ∷ []) r1 → r3 ≡ put (at + 20) (fields 2 bs) r2
+pub start-written : (l : List ℕ) (at k n unit kind fill : ℕ) (bs ls : List ℕ) (dest : ℕ) → at + 44 ≤ length l → (r1 r2 r3 r4 r5 r6 : List ℕ)
+    → r1 ≡ put at (unitHead (kindAt 1) k n 0 unit) l → r2 ≡ put (at + 16) (kind ∷ fill ∷ length bs ∷ length ls ∷ []) r1 → r3 ≡ put (at + 20) (fields 2 bs) r2
     → r4 ≡ put (at + 24) (fields 8 ls) r3 → r5 ≡ put (at + 40) (bytes2 dest) r4 → r6 ≡ put (at + 42) (bytes2 0) r5
-    → r6 ≡ put at (encode n (LB (beginOf unit kind fill bs ls dest))) l
-begin-written l at n unit kind fill bs ls dest h r1 r2 r3 r4 r5 r6 e1 e2 e3 e4 e5 e6 =
-    rw (e6, e5, e4, e3, e2, e1) (begin-puts l at n unit kind fill bs ls dest h)
+    → r6 ≡ put at (startOf k n unit kind fill bs ls dest) l
+start-written l at k n unit kind fill bs ls dest h r1 r2 r3 r4 r5 r6 e1 e2 e3 e4 e5 e6 =
+    rw (e6, e5, e4, e3, e2, e1) (start-puts l at k n unit kind fill bs ls dest h)
+
+-- an LB is its start and the records that it carries
+pub encode-begin : (n unit kind fill : ℕ) (bs ls : List ℕ) (dest : ℕ) (rs : List (List ℕ))
+    → encode n (LB (beginOf unit kind fill bs ls dest rs)) ≡ startOf (length rs) n unit kind fill bs ls dest ++ joined rs
+unfolding encode body previous kindOf size carried startOf unitHead header bytes2 bytes4 beginOf
+encode-begin n unit kind fill bs ls dest rs =
+    let a : List ℕ = fields 2 bs in
+    let b : List ℕ = fields 8 ls in
+    let c : List ℕ = bytes2 dest ++ bytes2 0 in
+    let e : (a ++ (b ++ c)) ++ joined rs ≡ a ++ (b ++ (c ++ joined rs)) = append-assoc a (b ++ c) (joined rs) ∙ ap (λ (x : List ℕ). a ++ x) (append-assoc b c (joined rs)) in
+    sym (unfold bytes2 in rw e)
+
+-- an LB that carries none
+pub encode-plain : (n unit kind fill : ℕ) (bs ls : List ℕ) (dest : ℕ) → startOf 0 n unit kind fill bs ls dest ≡ encode n (LB (beginOf unit kind fill bs ls dest []))
+unfolding joined
+encode-plain n unit kind fill bs ls dest = sym (encode-begin n unit kind fill bs ls dest [] ∙ append-nil _)
+
+-- the LB of a put or delete: its start, which lists nothing, then its record
+pub save-written! : (l : List ℕ) (at n unit kind : ℕ) (bs ls r m s : List ℕ) (k : ℕ) → bs ≡ [] → ls ≡ [] → length r ≡ 16 → at + 60 ≤ length l
+    → m ≡ put at (startOf 1 n unit kind 0 bs ls 0) l → k ≡ lengthOf (kindAt 1) 0 → s ≡ put (at + k) r m → s ≡ put at (encode n (LB (saveOf unit kind r))) l
+unfolding saveOf joined lengthOf kindAt kinds
+save-written! l at n unit kind bs ls r m s k eb el h room e q p =
+    let z : length (startOf 1 n unit kind 0 [] [] 0) ≡ 44 = length-start 1 n unit kind 0 [] [] 0 in
+    let f : encode n (LB (beginOf unit kind 0 [] [] 0 (r ∷ []))) ≡ startOf 1 n unit kind 0 [] [] 0 ++ r =
+    encode-begin n unit kind 0 [] [] 0 (r ∷ []) ∙ ap (λ (x : List ℕ). startOf 1 n unit kind 0 [] [] 0 ++ x) (append-nil r) in
+    p ∙ rw (q, e, eb, el, f, ← z) (put-next at (startOf 1 n unit kind 0 [] [] 0) r l (omega arith))
+
+-- ---- an LG
+
+pub image-puts : (l : List ℕ) (at n p : ℕ) → at + 16 ≤ length l
+    → put (at + 14) (bytes2 0) (put (at + 12) (bytes2 p) (put at (header (kindAt 6) (lengthOf (kindAt 6) 1) n (n - 1)) l)) ≡ put at (imageHead n p) l
+unfolding imageHead header bytes2 bytes4 joined kindAt kinds
+image-puts l at n p h =
+    rw (← puts-all at (header image (lengthOf image 1) n (n - 1) ∷ bytes2 p ∷ bytes2 0 ∷ []) l (imageHead n p) refl h, add-zero at)
+
+-- an LG is its head and its image
+pub encode-image : (n p : ℕ) (pg : List ℕ) → encode n (LG (imageOf p pg)) ≡ imageHead n p ++ pg
+unfolding encode body previous kindOf size carried imageHead header bytes2 bytes4
+encode-image n p pg = refl
+
+pub length-imageHead : (n p : ℕ) → length (imageHead n p) ≡ 16
+unfolding imageHead header bytes2 bytes4
+length-imageHead n p = refl
+
+pub image-written : (l : List ℕ) (at n p : ℕ) (pg : List ℕ) → length pg ≡ 256 → at + 272 ≤ length l → (m : List ℕ) → m ≡ put at (imageHead n p) l
+    → put (at + 16) pg m ≡ put at (encode n (LG (imageOf p pg))) l
+image-written l at n p pg k h m e =
+    let q : length (imageHead n p) ≡ 16 = length-imageHead n p in
+    rw (e, encode-image n p pg, ← q) (put-next at (imageHead n p) pg l (omega arith))

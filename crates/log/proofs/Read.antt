@@ -11,22 +11,23 @@ use mathlib.Core.Option.{Option, some, none, Option·some-injective, Option·non
 use lib.ListN.{length, drop, getD, length-drop}
 use lib.Dec.{eqb, leb}
 use borrow.Author.Tests.{leb-true}
-use Rattle.field.specs.Test.{all, pick, when, bind}
-use Rattle.field.specs.Bytes.{zeroes, allZero, starts, Bytes, le2, le4, most4}
-use Rattle.field.proofs.Test.{all-head, all-tail, when-some, bind-some}
+use Rattle.field.specs.Test.{both, all, pick, when, bind}
+use Rattle.field.specs.Bytes.{part, zeroes, allZero, starts, Bytes, le2, le4, most4}
+use Rattle.field.proofs.Test.{both-1, both-2, all-head, all-tail, when-some, bind-some}
+use Rattle.field.proofs.Part.{length-part}
 use Rattle.field.proofs.Number.{le4-small}
 use Rattle.field.proofs.Zero.{zero-list}
 use Rattle.field.proofs.Same.{starts-eq, starts-length}
-use Rattle.field.proofs.Byte.{bytes-drop}
+use Rattle.field.proofs.Byte.{bytes-drop, bytes-part}
 use Rattle.page.specs.Page.{rowsOf, ascendRecords}
 use Rattle.page.specs.Each.{Each, Long}
 use Rattle.page.proofs.Rows.{length-rowsOf, long-rowsOf, bytes-rowsOf}
-use Rattle.log.specs.Record.{lengthOf, kindOf, Check, Begin, Rec, LB, LO, carried, size, encodeCheck, encode, encodeAll}
+use Rattle.log.specs.Record.{image, lengthOf, kindOf, Check, Begin, saves, Image, Rec, LB, LO, LG, LE, carried, size, sizes, encodeCheck, encode, encodeAll}
 use Rattle.log.specs.Plan.{Step, takeOut, bringIn, point, close}
-use Rattle.log.specs.Log.{Open, State, first, after, readBegin, beginOk, planned, plannedFirst, expected, readRec, readRecs, readCheck, Log, readLog, atEnd, encodeLog}
-use Rattle.log.proofs.Record.{Sized, length-encodeCheck, length-encode}
-use Rattle.log.proofs.State.{sizes, Every, at-atEnd}
-use Rattle.log.specs.Valid.{Does, does-out, does-in, does-point, does-close, Follows, begins, goes, Fits, Valid, Small, Good}
+use Rattle.log.specs.Log.{Open, State, first, after, savesAt, readBegin, beginOk, planned, plannedFirst, imagesOf, allBear, readImage, follows, imaged, expected, readRec, readRecs, readCheck, Log, readLog, atEnd, encodeLog}
+use Rattle.log.proofs.Record.{Sized, length-encodeCheck, length-encode, number-read}
+use Rattle.log.proofs.State.{Every, at-atEnd}
+use Rattle.log.specs.Valid.{Does, does-out, does-in, does-point, does-close, Logs, logs-image, logs-end, Bears, Follows, begins, goes, logs, Fits, Valid, Small, Good}
 
 -- ---- one record
 
@@ -61,22 +62,78 @@ planned-facts (close unit) did l r e h =
     subst (λ (q : Rec). Sized q × (Bytes l → Does did (close unit) q)) (Option·some-injective _ r e) (Each.nil, λ b. does-close)
 
 -- the record that an open unit expects
-first-facts : (u : ℕ) (o : Open) (xs : List Step) (l : List ℕ) (r : Rec) → o .todo ≡ xs → plannedFirst xs (o .did) l ≡ some r → size r ≤ length l
+first-facts : (u : ℕ) (o : Open) (xs : List Step) (l : List ℕ) (r : Rec) → saves (o .start) ≡ false → o .todo ≡ xs → plannedFirst xs (o .did) l ≡ some r → size r ≤ length l
     → Sized r × (Bytes l → Follows u (some o) r)
 unfolding plannedFirst
-first-facts u o [] l r t e h = absurd (Option·none-ne-some r e)
-first-facts u o (x ∷ xs) l r t e h = let p = planned-facts x (o .did) l r e h in (p .0, λ b. goes t (p .1 b))
+first-facts u o [] l r s t e h = absurd (Option·none-ne-some r e)
+first-facts u o (x ∷ xs) l r s t e h = let p = planned-facts x (o .did) l r e h in (p .0, λ b. goes s t (p .1 b))
+
+-- the record that an open put or delete expects
+imaged-facts : (u : ℕ) (is : List Image) (l : List ℕ) (r : Rec) → imaged u is l ≡ some r → size r ≤ length l → Sized r × ((Bytes l → Logs u is r) × Bears (le4 l 4) r)
+unfolding imaged carried size lengthOf kindOf readImage
+imaged-facts u is l r e h = by-mark (eqb (getD l 1 0) (image .sign)) e
+  where
+    by-mark : (t : Bool) → pick t (when (follows is (readImage l)) (LG (readImage l))) (when (both (leb 1 (length is)) (allBear (le4 l 4) is)) (LE u is)) ≡ some r
+        → Sized r × ((Bytes l → Logs u is r) × Bears (le4 l 4) r)
+    by-mark true c =
+        let w = when-some (follows is (readImage l)) (LG (readImage l)) r (unfold pick in c) in
+        let m : 16 + 256 * 1 ≤ length l = rw (← w .1) at h in
+        let long : length (part 16 256 l) ≡ 256 = length-part 16 256 l (omega arith) in
+        subst (λ (q : Rec). Sized q × ((Bytes l → Logs u is q) × Bears (le4 l 4) q)) (w .1)
+        (Each.cons {r = part 16 256 l} long Each.nil, ((λ b. logs-image (w .0) long (bytes-part 16 256 l b)), tt))
+    by-mark false c =
+        let w = when-some (both (leb 1 (length is)) (allBear (le4 l 4) is)) (LE u is) r (unfold pick in c) in
+        subst (λ (q : Rec). Sized q × ((Bytes l → Logs u is q) × Bears (le4 l 4) q)) (w .1)
+        (Each.nil, ((λ b. logs-end (leb-true 1 (length is) (both-1 _ _ (w .0)))), both-2 _ _ (w .0)))
+
+-- the record that a step expects bears any number
+planned-bears : (m : ℕ) (x : Step) (did : List Rec) (l : List ℕ) (r : Rec) → planned x did l ≡ some r → Bears m r
+unfolding planned allBear
+planned-bears m (takeOut org dest) did l r e =
+    let k : ℕ = le2 l 16 in
+    let rs : List (List ℕ) = rowsOf 16 k (drop 20 l) in
+    subst (Bears m) (when-some (all (leb 1 k ∷ leb k 15 ∷ ascendRecords 0 rs ∷ [])) (LO org dest rs) r e .1) tt
+planned-bears m (bringIn org dest back) did l r e = subst (Bears m) (Option·some-injective _ r e) tt
+planned-bears m (point base old new other) did l r e = subst (Bears m) (Option·some-injective _ r e) tt
+planned-bears m (close unit) did l r e = subst (Bears m) (Option·some-injective _ r e) refl
+
+first-bears : (m : ℕ) (xs : List Step) (did : List Rec) (l : List ℕ) (r : Rec) → plannedFirst xs did l ≡ some r → Bears m r
+unfolding plannedFirst
+first-bears m [] did l r e = absurd (Option·none-ne-some r e)
+first-bears m (x ∷ xs) did l r e = planned-bears m x did l r e
+
+-- the record that a begin record carries
+saved-facts : (u : ℕ) (l : List ℕ) → size (LB (readBegin u l)) ≤ length l
+    → Each (Long 16) (readBegin u l .saved) × (Bytes l → Each Bytes (readBegin u l .saved))
+unfolding readBegin carried size lengthOf kindOf
+saved-facts u l h = by-type (savesAt l) h
+  where
+    by-type : (t : Bool) → 44 + 16 * length (pick t (part 44 16 l ∷ []) []) ≤ length l
+        → Each (Long 16) (pick t (part 44 16 l ∷ []) []) × (Bytes l → Each Bytes (pick t (part 44 16 l ∷ []) []))
+    by-type true k = unfold pick in (carried-one (unfold pick in k))
+      where
+        carried-one : 44 + 16 * 1 ≤ length l → Each (Long 16) (part 44 16 l ∷ []) × (Bytes l → Each Bytes (part 44 16 l ∷ []))
+        carried-one k = (Each.cons {r = part 44 16 l} (length-part 44 16 l (omega arith)) Each.nil, λ b. Each.cons (bytes-part 44 16 l b) Each.nil)
+    by-type false k = unfold pick in (Each.nil, λ b. Each.nil)
 
 -- the record that a state expects can be written, and of bytes it may come next
 expected-facts : (u : ℕ) (o : Option Open) (l : List ℕ) (r : Rec) → expected u o l ≡ some r → size r ≤ length l
-    → Sized r × (Bytes l → Follows u o r)
-unfolding expected carried
+    → Sized r × ((Bytes l → Follows u o r) × Bears (le4 l 4) r)
+unfolding expected carried kindOf
 expected-facts u none l r e h =
     let g : Begin = readBegin (u + 1) l in
     let w = when-some (beginOk g) (LB g) r e in
     let n : g .unit ≡ u + 1 = unfold readBegin in refl in
-    subst (λ (q : Rec). Sized q × (Bytes l → Follows u none q)) (w .1) (Each.nil, λ b. begins n (w .0))
-expected-facts u (some o) l r e h = first-facts u o (o .todo) l r refl e h
+    let k = saved-facts (u + 1) l (rw (← w .1) at h) in
+    subst (λ (q : Rec). Sized q × ((Bytes l → Follows u none q) × Bears (le4 l 4) q)) (w .1) (k .0, ((λ b. begins n (w .0) (k .0) (k .1 b)), tt))
+expected-facts u (some o) l r e h = by-type (saves (o .start)) refl e
+  where
+    by-type : (t : Bool) → saves (o .start) ≡ t → pick t (imaged (o .start .unit) (imagesOf (o .did) []) l) (plannedFirst (o .todo) (o .did) l) ≡ some r
+        → Sized r × ((Bytes l → Follows u (some o) r) × Bears (le4 l 4) r)
+    by-type true s c = let p = imaged-facts (o .start .unit) (imagesOf (o .did) []) l r (unfold pick in c) h in (p .0, ((λ b. logs s (p .1 .0 b)), p .1 .1))
+    by-type false s c =
+        let q : plannedFirst (o .todo) (o .did) l ≡ some r = unfold pick in c in
+        let p = first-facts u o (o .todo) l r s refl q h in (p .0, (p .1, first-bears (le4 l 4) (o .todo) (o .did) l r q))
 
 -- what a record says of the bytes l that it was read off, after the state s
 pub record ReadOff (s : State) (l : List ℕ) (r : Rec) : Type 0 where
@@ -96,11 +153,14 @@ readRec-facts s l r e =
     let h : size (b .from) ≤ length l = leb-true (size (b .from)) (length l) (all-head _ _ t) in
     let p = expected-facts (s .unit) (s .opened) l (b .from) (b .was) h in
     let q : starts (encode n (b .from)) l ≡ true = all-head _ _ (all-tail _ _ t) in
+    let room : n ≤ most4 = leb-true n most4 (all-head _ _ (w .0)) in
+    let front : l ≡ encode n (b .from) ++ drop (size (b .from)) l = rw (length-encode n (b .from) (p .0)) at (starts-eq (encode n (b .from)) l q) in
+    let num : le4 l 4 ≡ n = ap (λ (x : List ℕ). le4 x 4) front ∙ number-read n (b .from) (drop (size (b .from)) l) room in
     subst (ReadOff s l) (w .1) (record {
       sized = p .0;
       short = h;
-      front = rw (length-encode n (b .from) (p .0)) at (starts-eq (encode n (b .from)) l q);
-      fits = λ y. record { room = leb-true n most4 (all-head _ _ (w .0)); follows = p .1 y };
+      front = front;
+      fits = λ y. record { room = room; follows = p .1 .0 y; bears = rw num at (p .1 .1) };
     })
 
 -- ---- the records

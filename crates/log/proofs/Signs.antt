@@ -3,25 +3,25 @@ use Prim.Native.Nat.{ℕ, _+_, _≤_, _<_}
 use native.Mathlib.Omega.{arith}
 use mathlib.Core.Path.{_≡_, refl, sym, ap, _∙_, subst}
 use mathlib.Core.Bool.{Bool, true, false, false≢true}
-use mathlib.Core.List.{List, _++_}
+use mathlib.Core.List.{List, [], _++_}
 use lib.ListN.{length, drop, getD}
 use lib.Seq.{getD-drop}
 use lib.Dec.{eqb}
-use borrow.Author.Tests.{eq-eqb, leb-true}
+use borrow.Author.Tests.{eq-eqb, ne-eqb, leb-true}
 use Rattle.field.specs.Test.{pick}
 use Rattle.field.specs.Bytes.{starts, le2, le4, most4}
 use Rattle.field.proofs.Test.{all-head, all-tail, both-1, both-2, pick-true, pick-false}
 use Rattle.field.proofs.Same.{starts-eq}
 use Rattle.page.specs.Page.{rowsOf}
-use Rattle.log.specs.Record.{Kind, Rec, LM, LE, out, into, modify, lengthOf, kindOf, size, header, body, previous, encode}
+use Rattle.log.specs.Record.{Kind, Image, Rec, LM, LG, LE, begin, out, into, modify, image, typeAt, lengthOf, kindOf, carried, size, header, body, previous, encode}
 use Rattle.log.specs.Write.{paged, inBytes}
-use Rattle.log.specs.Plan.{Step, takeOut, bringIn, point, close}
-use Rattle.log.specs.Log.{largest, beginOk, readBegin}
-use Rattle.log.specs.Stand.{stands, standsIn, standsModify, standsOut, standsBegin}
-use Rattle.log.specs.Scan.{lost, begun, went, ended, stepped, turned}
+use Rattle.log.specs.Plan.{Step, takeOut, bringIn, point, close, plan}
+use Rattle.log.specs.Log.{largest, beginOk, savesAt, readBegin, readImage}
+use Rattle.log.specs.Stand.{stands, standsIn, standsModify, standsOut, standsBegin, standsImage, standsLast}
+use Rattle.log.specs.Scan.{lost, begun, went, ended, stepped, imagesOn, saved, turned}
 use Rattle.log.specs.Carries.{Carries}
 use Rattle.log.specs.declared.scan.Walk.{Walk}
-use Rattle.log.proofs.Ways.{end-room, modify-room, in-room, begin-room, out-room, out-rows}
+use Rattle.log.proofs.Ways.{stands-room, modify-room, in-room, begin-room, out-room, out-rows}
 
 -- ---- the mark of a record that stands there
 
@@ -48,6 +48,33 @@ in-number : (n org dest back k : ℕ) (m : List ℕ) → standsIn n org dest bac
 unfolding standsIn
 in-number n org dest back k m e = leb-true n most4 (all-head _ _ e)
 
+-- ---- and its bytes
+
+pub close-room : (n u : ℕ) (is : List Image) (m : List ℕ) → stands n (LE u is) m ≡ true → 16 ≤ length m
+unfolding size carried kindOf lengthOf
+close-room n u is m e = stands-room n (LE u is) m e
+
+pub drawn-room : (n : ℕ) (i : Image) (m : List ℕ) → stands n (LG i) m ≡ true → 272 ≤ length m
+unfolding size carried kindOf lengthOf
+drawn-room n i m e = stands-room n (LG i) m e
+
+begin-least : (k n : ℕ) → lengthOf begin k ≤ n → 16 ≤ n
+unfolding lengthOf
+begin-least k n h = omega arith
+
+pub begin-room-fixed : (k n : ℕ) → lengthOf begin k ≤ n → 44 ≤ n
+unfolding lengthOf
+begin-room-fixed k n h = omega arith
+
+last-stands : (n u : ℕ) (is : List Image) (m : List ℕ) → standsLast n u is m ≡ true → stands n (LE u is) m ≡ true
+unfolding standsLast
+last-stands n u is m e = both-2 _ _ e
+
+-- a put or delete is no compact
+pub saves-no-compact : (b : List ℕ) → savesAt b ≡ true → eqb (getD b 16 0) 1 ≡ false
+unfolding savesAt
+saves-no-compact b v = let k : 4 ≤ getD b 16 0 = leb-true 4 (getD b 16 0) v in ne-eqb (getD b 16 0) 1 (λ e. omega arith)
+
 -- ---- the ways past it, by the sign g
 
 -- y: the numbers after the record at the front of m; t: the unit is a compact
@@ -57,8 +84,9 @@ pub record Way (g : ℕ) (w : Walk) (m : List ℕ) (t : Bool) (y : Walk) : Type 
   pub takes : g ≡ 79 → Carries m × (y ≡ went w (lengthOf out (le2 m 16)) (le2 m 16) 0 (largest (w .moved) (rowsOf 16 (le2 m 16) (drop 20 m))))
   pub brings : g ≡ 73 → (24 ≤ length m) × (y ≡ went w (lengthOf into 0) 0 0 (w .moved))
   pub points : g ≡ 77 → (28 ≤ length m) × (y ≡ went w (lengthOf modify 0) 0 (le4 m 20) (w .moved))
-  pub begins : g ≡ 66 → (44 ≤ length m) × (w .unit .0 < 4294967295) × (y ≡ begun w)
-  pub ends : (g ≡ 79 → ⊥) → (g ≡ 73 → ⊥) → (g ≡ 77 → ⊥) → (g ≡ 66 → ⊥) → (w .opened ≡ true) × (y ≡ ended w t)
+  pub draws : g ≡ 71 → (272 ≤ length m) × (y ≡ went w (lengthOf image 1) 0 0 (w .moved))
+  pub begins : g ≡ 66 → (lengthOf begin (pick (savesAt m) 1 0) ≤ length m) × (w .unit .0 < 4294967295) × (y ≡ begun w (pick (savesAt m) 1 0))
+  pub ends : (g ≡ 79 → ⊥) → (g ≡ 73 → ⊥) → (g ≡ 77 → ⊥) → (g ≡ 71 → ⊥) → (g ≡ 66 → ⊥) → (w .opened ≡ true) × (y ≡ ended w t)
 
 -- a sign is not another
 other : {A : Type 0} (a b g : ℕ) → eqb a b ≡ false → g ≡ a → g ≡ b → A
@@ -85,8 +113,9 @@ module _ (w : Walk) (m : List ℕ) (t : Bool) where
         takes = λ q. (record { room = r .0; some = o .0; few = r .1; rising = o .1 }, pick-true _ _ _ h);
         brings = other 79 73 (getD m 1 0) refl s;
         points = other 79 77 (getD m 1 0) refl s;
+        draws = other 79 71 (getD m 1 0) refl s;
         begins = other 79 66 (getD m 1 0) refl s;
-        ends = λ a b c d. absurd (a s);
+        ends = λ a b c d e. absurd (a s);
       }
 
   way-in : (org dest back k : ℕ) → standsIn (w .number .0 + 1) org dest back k m ≡ true
@@ -101,8 +130,9 @@ module _ (w : Walk) (m : List ℕ) (t : Bool) where
         takes = other 73 79 (getD m 1 0) refl s;
         brings = λ q. (r, pick-true _ _ _ h);
         points = other 73 77 (getD m 1 0) refl s;
+        draws = other 73 71 (getD m 1 0) refl s;
         begins = other 73 66 (getD m 1 0) refl s;
-        ends = λ a b c d. absurd (b s);
+        ends = λ a b c d e. absurd (b s);
       }
 
   way-point : (base old new : ℕ) → standsModify (w .number .0 + 1) base old new m ≡ true
@@ -118,27 +148,51 @@ module _ (w : Walk) (m : List ℕ) (t : Bool) where
         takes = other 77 79 (getD m 1 0) refl s;
         brings = other 77 73 (getD m 1 0) refl s;
         points = λ q. (r, pick-true _ _ _ h);
+        draws = other 77 71 (getD m 1 0) refl s;
         begins = other 77 66 (getD m 1 0) refl s;
-        ends = λ a b c d. absurd (c s);
+        ends = λ a b c d e. absurd (c s);
       }
 
-  way-end : (u : ℕ) → stands (w .number .0 + 1) (LE u) m ≡ true → w .opened ≡ true → Way (getD m 1 0) w m t (pick (stands (w .number .0 + 1) (LE u) m) (ended w t) lost)
+  -- an LE, with or without images
+  way-close : (u : ℕ) (is : List Image) (z : Bool) → stands (w .number .0 + 1) (LE u is) m ≡ true → z ≡ true → w .opened ≡ true
+      → Way (getD m 1 0) w m t (pick z (ended w t) lost)
   unfolding kindOf
-  way-end u h op =
-      let s = stands-sign (w .number .0 + 1) (LE u) m h in
-      let n = stands-number (w .number .0 + 1) (LE u) m h in
-      let r = end-room (w .number .0 + 1) m true refl u (sym h) in
+  way-close u is z h q op =
+      let s = stands-sign (w .number .0 + 1) (LE u is) m h in
+      let n = stands-number (w .number .0 + 1) (LE u is) m h in
       record {
         number = omega (arith, n);
-        room = r;
+        room = close-room (w .number .0 + 1) u is m h;
         takes = other 69 79 (getD m 1 0) refl s;
         brings = other 69 73 (getD m 1 0) refl s;
         points = other 69 77 (getD m 1 0) refl s;
+        draws = other 69 71 (getD m 1 0) refl s;
         begins = other 69 66 (getD m 1 0) refl s;
-        ends = λ a b c d. (op, pick-true _ _ _ h);
+        ends = λ a b c d e. (op, pick-true _ _ _ q);
       }
 
-  way-begin : standsBegin (w .number .0 + 1) (w .unit .0 + 1) m ≡ true → Way (getD m 1 0) w m t (pick (standsBegin (w .number .0 + 1) (w .unit .0 + 1) m) (begun w) lost)
+  way-end : (u : ℕ) → stands (w .number .0 + 1) (LE u []) m ≡ true → w .opened ≡ true → Way (getD m 1 0) w m t (pick (stands (w .number .0 + 1) (LE u []) m) (ended w t) lost)
+  way-end u h op = way-close u [] _ h h op
+
+  way-image : (is : List Image) → standsImage (w .number .0 + 1) is m ≡ true
+      → Way (getD m 1 0) w m t (pick (standsImage (w .number .0 + 1) is m) (went w (lengthOf image 1) 0 0 (w .moved)) lost)
+  unfolding standsImage kindOf
+  way-image is h =
+      let s = stands-sign (w .number .0 + 1) (LG (readImage m)) m (both-2 _ _ h) in
+      let n = stands-number (w .number .0 + 1) (LG (readImage m)) m (both-2 _ _ h) in
+      let r = drawn-room (w .number .0 + 1) (readImage m) m (both-2 _ _ h) in
+      record {
+        number = omega (arith, n);
+        room = omega (arith, r);
+        takes = other 71 79 (getD m 1 0) refl s;
+        brings = other 71 73 (getD m 1 0) refl s;
+        points = other 71 77 (getD m 1 0) refl s;
+        draws = λ q. (r, pick-true _ _ _ h);
+        begins = other 71 66 (getD m 1 0) refl s;
+        ends = λ a b c d e. absurd (d s);
+      }
+
+  way-begin : standsBegin (w .number .0 + 1) (w .unit .0 + 1) m ≡ true → Way (getD m 1 0) w m t (pick (standsBegin (w .number .0 + 1) (w .unit .0 + 1) m) (begun w (pick (savesAt m) 1 0)) lost)
   unfolding standsBegin beginOk readBegin kindOf
   way-begin h =
       let s = stands-sign (w .number .0 + 1) _ m (both-2 _ _ h) in
@@ -147,12 +201,13 @@ module _ (w : Walk) (m : List ℕ) (t : Bool) where
       let r = begin-room (w .number .0 + 1) m true refl (w .unit .0 + 1) (sym h) in
       record {
         number = omega (arith, n);
-        room = omega (arith, r);
+        room = begin-least (pick (savesAt m) 1 0) (length m) r;
         takes = other 66 79 (getD m 1 0) refl s;
         brings = other 66 73 (getD m 1 0) refl s;
         points = other 66 77 (getD m 1 0) refl s;
+        draws = other 66 71 (getD m 1 0) refl s;
         begins = λ q. (r, omega (arith, u), pick-true _ _ _ h);
-        ends = λ a b c d. absurd (d s);
+        ends = λ a b c d e. absurd (e s);
       }
 
   way-step : (x : Step) → (stepped w m t x) .ok ≡ true → w .opened ≡ true → Way (getD m 1 0) w m t (stepped w m t x)
@@ -161,6 +216,22 @@ module _ (w : Walk) (m : List ℕ) (t : Bool) where
   way-step (bringIn org dest back) e op = way-in org dest back _ (there-by _ _ e)
   way-step (point base old new other) e op = way-point base old new (there-by _ _ e)
   way-step (close u) e op = way-end u (there-by _ _ e) op
+
+  -- the record of a put or delete
+  way-saved : (is : List Image) → t ≡ false → (saved w m is) .ok ≡ true → w .opened ≡ true → Way (getD m 1 0) w m t (saved w m is)
+  unfolding saved pick
+  way-saved is n e op = by-mark (eqb (getD m 1 0) (image .sign)) e
+    where
+      by-mark : (z : Bool)
+          → (pick z (pick (standsImage (w .number .0 + 1) is m) (went w (lengthOf image 1) 0 0 (w .moved)) lost) (pick (standsLast (w .number .0 + 1) (w .unit .0) is m) (ended w false) lost)) .ok ≡ true
+          → Way (getD m 1 0) w m t
+          (pick z (pick (standsImage (w .number .0 + 1) is m) (went w (lengthOf image 1) 0 0 (w .moved)) lost) (pick (standsLast (w .number .0 + 1) (w .unit .0) is m) (ended w false) lost))
+      by-mark true c = way-image is (there-by _ _ c)
+      by-mark false c =
+          let h : standsLast (w .number .0 + 1) (w .unit .0) is m ≡ true = there-by _ _ c in
+          let d : Way (getD m 1 0) w m t (pick (standsLast (w .number .0 + 1) (w .unit .0) is m) (ended w t) lost) =
+          way-close (w .unit .0) is _ (last-stands (w .number .0 + 1) (w .unit .0) is m h) h op in
+          subst (λ (y : Bool). Way (getD m 1 0) w m t (pick (standsLast (w .number .0 + 1) (w .unit .0) is m) (ended w y) lost)) n d
 
 -- ---- the next record of the log
 
@@ -173,10 +244,19 @@ module _ (l : List ℕ) (w : Walk) where
 
   way-by : (b : Bool) → w .opened ≡ b → (turned l w) .ok ≡ true
       → Way (getD (drop (w .at) l) 1 0) w (drop (w .at) l) (eqb (getD (drop (w .begin) l) 16 0) 1) (turned l w)
-  unfolding turned
+  unfolding turned pick
   way-by true op e =
       let q = pick-true (w .opened) _ _ op in
-      subst (Way _ w _ _) (sym q) (way-step w (drop (w .at) l) _ _ (sym (ap (λ (y : Walk). y .ok) q) ∙ e) op)
+      subst (Way _ w _ _) (sym q) (open-by (savesAt (drop (w .begin) l)) refl (sym (ap (λ (y : Walk). y .ok) q) ∙ e))
+    where
+      open-by : (z : Bool) → savesAt (drop (w .begin) l) ≡ z
+          → (pick z (saved w (drop (w .at) l) (imagesOn l w))
+          (stepped w (drop (w .at) l) (eqb (getD (drop (w .begin) l) typeAt 0) 1) (getD (plan (readBegin (w .unit .0) (drop (w .begin) l))) (w .done) (close (w .unit .0))))) .ok ≡ true
+          → Way (getD (drop (w .at) l) 1 0) w (drop (w .at) l) (eqb (getD (drop (w .begin) l) 16 0) 1)
+          (pick z (saved w (drop (w .at) l) (imagesOn l w))
+          (stepped w (drop (w .at) l) (eqb (getD (drop (w .begin) l) typeAt 0) 1) (getD (plan (readBegin (w .unit .0) (drop (w .begin) l))) (w .done) (close (w .unit .0)))))
+      open-by true v c = way-saved w (drop (w .at) l) _ (imagesOn l w) (saves-no-compact (drop (w .begin) l) v) c op
+      open-by false v c = way-step w (drop (w .at) l) _ _ c op
   way-by false op e =
       let q = pick-false (w .opened) _ _ op in
       subst (Way _ w _ _) (sym q) (way-begin w (drop (w .at) l) _ (there-by _ _ (sym (ap (λ (y : Walk). y .ok) q) ∙ e)))

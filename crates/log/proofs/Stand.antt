@@ -7,17 +7,18 @@ use mathlib.Core.List.{List, [], _∷_, _++_}
 use lib.ListN.{length, take, drop, getD, length-drop}
 use lib.Seq.{take-at}
 use lib.Dec.{leb}
-use borrow.Author.Tests.{le-leb, lt-leb}
+use borrow.Author.Tests.{leb-true, le-leb, lt-leb}
 use Rattle.field.specs.Test.{both, all}
 use Rattle.field.specs.Bytes.{put, starts, le4, bytes2, bytes4, most4}
-use Rattle.field.proofs.Test.{both-end, both-true, both-false}
+use Rattle.field.proofs.Test.{all-head, all-tail, both-end, both-true, both-false}
 use Rattle.field.proofs.Number.{le4-drop}
+use Rattle.field.proofs.Same.{starts-eq}
 use Rattle.page.specs.Each.{Each}
 use Rattle.log.specs.Record.{Rec, LI, LM, LE, into, lengthOf, kindOf, carried, size, header, encode}
 use Rattle.log.specs.Write.{paged, inBytes}
 use Rattle.log.specs.Table.{kinds, kindAt}
 use Rattle.log.specs.Stand.{stands, standsIn, standsModify}
-use Rattle.log.proofs.Record.{Sized, length-encode}
+use Rattle.log.proofs.Record.{Sized, length-encode, number-read}
 use Rattle.log.proofs.Puts.{encode-in}
 
 -- bytes written at the front of a buffer are its front
@@ -58,9 +59,17 @@ module _ (n : ℕ) (r : Rec) (l : List ℕ) (at long : ℕ) (s : long ≡ size r
   unfolding stands here
   stand-rest! d k j z b c p q = rw (← s) (here-rest n long (encode n r) l at (length-encode n r d ∙ sym s) k j z b c p q)
 
+-- the bytes of a record that stands there have its number
+pub stands-le4 : (n : ℕ) (r : Rec) (l : List ℕ) → stands n r l ≡ true → le4 l 4 ≡ n
+unfolding stands
+stands-le4 n r l e =
+    let k : n ≤ most4 = leb-true n most4 (all-head _ _ e) in
+    let q = starts-eq (encode n r) l (all-head _ _ (all-tail _ _ (all-tail _ _ e))) in
+    ap (λ (x : List ℕ). le4 x 4) q ∙ number-read n r _ k
+
 -- ---- LE, LM and LI
 
-pub end-long : (unit : ℕ) → lengthOf (kindAt 5) 0 ≡ size (LE unit)
+pub end-long : (unit : ℕ) → lengthOf (kindAt 5) 0 ≡ size (LE unit [])
 unfolding size carried kindOf kindAt kinds
 end-long unit = refl
 

@@ -34,6 +34,11 @@ starts-cat a b m k e h =
     rw (length-append a b, e, take-add k (length b) m)
     (same-cat a b (take k m) (take (length b) (drop k m)) (e ∙ sym (length-take-le k m h)))
 
+-- every list begins with none
+pub starts-nil : (m : List ℕ) → starts [] m ≡ true
+unfolding starts same
+starts-nil m = refl
+
 -- a list begins with a part of itself, where the part stands
 pub starts-part : (o n : ℕ) (m : List ℕ) → o + n ≤ length m → starts (part o n m) (drop o m) ≡ true
 unfolding starts part

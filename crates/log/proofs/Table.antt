@@ -5,7 +5,7 @@ use native.Mathlib.Omega.{arith}
 use mathlib.Core.Path.{_≡_, refl}
 use mathlib.Core.List.{List, [], _∷_}
 use lib.ListN.{length, getD}
-use Rattle.log.specs.Record.{letter, Kind, check, begin, out, into, modify, end, lengthOf}
+use Rattle.log.specs.Record.{letter, Kind, check, begin, out, into, modify, end, image, lengthOf}
 use Rattle.log.specs.Table.{kinds, kindAt, tabled}
 
 -- a kind's four places in a table of kinds
@@ -28,15 +28,15 @@ placed (c ∷ cs) (suc k) h =
     record { lead = rw e0 (p .lead); sign = rw e1 (p .sign); fixed = rw e2 (p .fixed); each = rw e3 (p .each) }
 
 -- the kind k of the table
-pub table-row : (k : ℕ) → k < 6 → Placed kinds k
+pub table-row : (k : ℕ) → k < 7 → Placed kinds k
 table-row k h = placed kinds k (unfold kinds in h)
 
--- no kind is longer than an LB, or carries more than 16 bytes a record
+-- no kind is longer than an LB, or carries more than a page
 pub record Bounded (c : Kind) : Type 0 where
   pub fixed : c .fixed ≤ 44
-  pub each : c .each ≤ 16
+  pub each : c .each ≤ 256
 
-pub kind-bounded : (k : ℕ) → k < 6 → Bounded (kindAt k)
+pub kind-bounded : (k : ℕ) → k < 7 → Bounded (kindAt k)
 unfolding kindAt kinds
 kind-bounded zero h = record { fixed = omega arith; each = omega arith }
 kind-bounded (suc zero) h = record { fixed = omega arith; each = omega arith }
@@ -44,19 +44,32 @@ kind-bounded (suc (suc zero)) h = record { fixed = omega arith; each = omega ari
 kind-bounded (suc (suc (suc zero))) h = record { fixed = omega arith; each = omega arith }
 kind-bounded (suc (suc (suc (suc zero)))) h = record { fixed = omega arith; each = omega arith }
 kind-bounded (suc (suc (suc (suc (suc zero))))) h = record { fixed = omega arith; each = omega arith }
-kind-bounded (suc (suc (suc (suc (suc (suc k)))))) h = absurd (omega arith)
+kind-bounded (suc (suc (suc (suc (suc (suc zero)))))) h = record { fixed = omega arith; each = omega arith }
+kind-bounded (suc (suc (suc (suc (suc (suc (suc k))))))) h = absurd (omega arith)
+
+-- its mark's letter is a byte
+pub sign-byte : (k : ℕ) → k < 7 → getD kinds k check .sign ≤ 255
+unfolding kinds
+sign-byte zero h = omega arith
+sign-byte (suc zero) h = omega arith
+sign-byte (suc (suc zero)) h = omega arith
+sign-byte (suc (suc (suc zero))) h = omega arith
+sign-byte (suc (suc (suc (suc zero)))) h = omega arith
+sign-byte (suc (suc (suc (suc (suc zero))))) h = omega arith
+sign-byte (suc (suc (suc (suc (suc (suc zero)))))) h = omega arith
+sign-byte (suc (suc (suc (suc (suc (suc (suc k))))))) h = absurd (omega arith)
 
 -- the bytes of what a record carries are few
-pub each-small : (k n e : ℕ) → k < 6 → n ≤ 15 → e ≡ getD (tabled kinds) (4 * k + 3) 0 → e * n ≤ 240
+pub each-small : (k n e : ℕ) → k < 7 → n ≤ 15 → e ≡ getD (tabled kinds) (4 * k + 3) 0 → e * n ≤ 3840
 unfolding kindAt
 each-small k n e h m q =
-    let b : e ≤ 16 = omega (arith, q, table-row k h .each, kind-bounded k h .each) in
+    let b : e ≤ 256 = omega (arith, q, table-row k h .each, kind-bounded k h .each) in
     le-trans (mul-le-mul-left e m) (le-trans (mul-le-mul-right 15 b) (omega arith))
 
-pub length-is : (k n f e : ℕ) → k < 6 → f ≡ getD (tabled kinds) (4 * k + 2) 0 → e ≡ getD (tabled kinds) (4 * k + 3) 0 → f + e * n ≡ lengthOf (kindAt k) n
+pub length-is : (k n f e : ℕ) → k < 7 → f ≡ getD (tabled kinds) (4 * k + 2) 0 → e ≡ getD (tabled kinds) (4 * k + 3) 0 → f + e * n ≡ lengthOf (kindAt k) n
 unfolding kindAt lengthOf
 length-is k n f e h p q = rw (p, q, table-row k h .fixed, table-row k h .each)
 
-pub fixed-small : (k f : ℕ) → k < 6 → f ≡ getD (tabled kinds) (4 * k + 2) 0 → f ≤ 44
+pub fixed-small : (k f : ℕ) → k < 7 → f ≡ getD (tabled kinds) (4 * k + 2) 0 → f ≤ 44
 unfolding kindAt
 fixed-small k f h p = omega (arith, p, table-row k h .fixed, kind-bounded k h .fixed)

@@ -11,24 +11,24 @@ use lib.ListN.{length, drop, getD, length-drop}
 use lib.Seq.{drop-drop, getD-drop}
 use lib.Dec.{eqb, leb}
 use borrow.Author.Tests.{leb-true}
-use Rattle.field.specs.Test.{both, all, given, there}
+use Rattle.field.specs.Test.{both, all, pick, given, there}
 use Rattle.field.specs.Bytes.{put, allZero, Bytes, le2}
 use Rattle.field.proofs.Test.{all-head, all-tail, when-some, bind-some}
 use Rattle.field.proofs.Byte.{bytes-drop}
 use Rattle.page.specs.Page.{rowsOf, ascendRecords}
 use Rattle.page.proofs.Rows.{length-rowsOf}
-use Rattle.log.specs.Record.{Check, Begin, Rec, LB, LO, LI, lengthOf, kindOf, carried, size, encode}
+use Rattle.log.specs.Record.{Check, Begin, saves, Image, Rec, LB, LO, LI, LG, LE, image, lengthOf, kindOf, carried, size, encode}
 use Rattle.log.specs.Plan.{Step, takeOut, bringIn, point, close, plan}
-use Rattle.log.specs.Log.{Open, State, first, after, afterAll, readBegin, beginOk, taken, planned, readRec, readRecs, readCheck, Log, readLog, atEnd}
+use Rattle.log.specs.Log.{Open, State, first, after, afterAll, savesAt, readBegin, beginOk, taken, planned, imagesOf, readImage, readRec, readRecs, readCheck, Log, readLog, atEnd}
 use Rattle.log.specs.Scan.{shown, lost, turned, Ready, topped, answer, scanned, live}
-use Rattle.log.specs.Source.{sourced, recordAt}
+use Rattle.log.specs.Source.{sourced, recordAt, savedAt}
 use Rattle.log.specs.declared.scan.Walk.{Walk}
 use Rattle.log.proofs.Record.{size-least}
 use Rattle.log.specs.Valid.{Fits}
 use Rattle.log.proofs.Sound.{Awaits, awaits-todo}
 use Rattle.log.proofs.Read.{ReadOff, readRec-facts, readCheck-facts}
 use Rattle.log.proofs.Append.{grown, readLog-put, bytes-grown}
-use Rattle.log.proofs.Held.{Anchored, Holds, Back, Cons, ending-cons, head-drop, plan-back, awaits, done-some, begin-read, ready, turn-reads, holds-after, holds-first}
+use Rattle.log.proofs.Held.{Anchored, Holds, Back, Cons, ending-cons, head-drop, plan-back, awaits, done-some, saves-of, begin-read, keeps, saved-read, images-on, ready, turn-reads, holds-after, holds-first}
 use Rattle.log.proofs.Pass.{more-of, end-of, walk-some, at-after}
 use Rattle.log.proofs.Laid.{read-planned, Stood, stood-after, Sourced, sourced-next}
 
@@ -271,6 +271,7 @@ shown-shut s h = shut-by (s .opened) h
 pub record Next (l : List ℕ) (s : State) (o : Open) : Type 0 where
   pub step : Step
   pub others : List Step
+  pub plain : savesAt (drop ((shown s) .begin) l) ≡ false
   pub todo : o .todo ≡ step ∷ others
   pub room : (shown s) .begin + 44 ≤ length l
   pub start : readBegin ((shown s) .unit .0) (drop ((shown s) .begin) l) ≡ o .start
@@ -290,10 +291,10 @@ unit-is : (s : State) → (shown s) .unit .0 ≡ s .unit
 unfolding shown
 unit-is s = refl
 
-next-of : (l : List ℕ) (s : State) (o : Open) → Holds l s → s .opened ≡ some o → Next l s o
-next-of l s o h e =
+next-of : (l : List ℕ) (s : State) (o : Open) → Holds l s → s .opened ≡ some o → saves (o .start) ≡ false → Next l s o
+next-of l s o h e v =
     let a : Anchored l s o = h .anchored o e in
-    let w : Awaits (s .unit) o = awaits s o (h .sound) e in
+    let w : Awaits (s .unit) o = awaits s o (h .sound) e v in
     let c : Cons (o .todo) = ending-cons (w .todo) in
     let b : readBegin ((shown s) .unit .0) (drop ((shown s) .begin) l) ≡ o .start =
     ap (λ (u : ℕ). readBegin u (drop ((shown s) .begin) l)) (unit-is s) ∙ sym (a .start) in
@@ -306,6 +307,7 @@ next-of l s o h e =
     record {
       step = c .head;
       others = c .tail;
+      plain = sym (ap saves (a .start) ∙ saves-of (s .unit) _) ∙ v;
       todo = c .is;
       room = a .room;
       start = b;
@@ -316,10 +318,10 @@ next-of l s o h e =
       back = subst (Back (length (o .did))) y (plan-back (o .start) (s .unit) (length (o .did)));
     }
 
-module _ {l : List ℕ} {s : State} {rs : List Rec} {o : Open} (t : Toward l s rs) (op : s .opened ≡ some o) where
-  -- an open unit has a next step
+module _ {l : List ℕ} {s : State} {rs : List Rec} {o : Open} (t : Toward l s rs) (op : s .opened ≡ some o) (v : saves (o .start) ≡ false) where
+  -- an open unit that is no put or delete has a next step
   pub toward-next : Next l s o
-  toward-next = next-of l s o (t .holds) op
+  toward-next = next-of l s o (t .holds) op v
 
   -- its numbers show it
   pub toward-step : {x : Step} {xs : List Step} → o .todo ≡ x ∷ xs
@@ -329,7 +331,7 @@ module _ {l : List ℕ} {s : State} {rs : List Rec} {o : Open} (t : Toward l s r
   -- the LO of an LI that comes next
   pub toward-source : {org dest back : ℕ} {xs : List Step} → o .todo ≡ bringIn org dest back ∷ xs → Sourced l s (o .did) back
   toward-source {org} {dest} {back} {xs} e =
-      sourced-next l s o org dest back xs op (t .holds .inside) (awaits s o (t .holds .sound) op) (t .stood o op) e
+      sourced-next l s o org dest back xs op (t .holds .inside) (awaits s o (t .holds .sound) op v) (t .stood o op) e
       (subst (Back (length (o .did))) (cons-head _ _ _ _ (sym (toward-next .todo) ∙ e)) (toward-next .back))
 
 -- ---- the record that comes next
@@ -374,15 +376,29 @@ module _ {l : List ℕ} {s : State} {r : Rec} {rs : List Rec} (t : Toward l s (r
 
   module _ {o : Open} (op : s .opened ≡ some o) where
     -- where one is open, the record of its next step
-    pub toward-record : {x : Step} {xs : List Step} → o .todo ≡ x ∷ xs → r ≡ recordAt l (shown s) x
-    toward-record {x} {xs} e =
-        planned-at l s (o .did) x r (read-planned s o x xs (drop (s .at) l) r op e (toward-read t))
-        (λ org dest back q. toward-source t op (e ∙ ap (λ (y : Step). y ∷ xs) q) .rows)
+    pub toward-record : saves (o .start) ≡ false → {x : Step} {xs : List Step} → o .todo ≡ x ∷ xs → r ≡ recordAt l (shown s) x
+    toward-record v {x} {xs} e =
+        planned-at l s (o .did) x r (read-planned s o x xs (drop (s .at) l) r op v e (toward-read t))
+        (λ org dest back q. toward-source t op v (e ∙ ap (λ (y : Step). y ∷ xs) q) .rows)
 
     -- of an LO, its rows
-    pub toward-takes : {org dest : ℕ} {xs : List Step} → o .todo ≡ takeOut org dest ∷ xs → Takes l (s .at)
-    toward-takes {org} {dest} {xs} e =
-        takes-of l s (o .did) org dest r (read-planned s o (takeOut org dest) xs (drop (s .at) l) r op e (toward-read t)) (toward-room t)
+    pub toward-takes : saves (o .start) ≡ false → {org dest : ℕ} {xs : List Step} → o .todo ≡ takeOut org dest ∷ xs → Takes l (s .at)
+    toward-takes v {org} {dest} {xs} e =
+        takes-of l s (o .did) org dest r (read-planned s o (takeOut org dest) xs (drop (s .at) l) r op v e (toward-read t)) (toward-room t)
+
+    -- of a put or delete, an LG or the LE, with the images before it
+    pub toward-saved : saves (o .start) ≡ true → r ≡ savedAt l (shown s)
+    unfolding savedAt
+    toward-saved w =
+        let a : Anchored l s o = t .holds .anchored o op in
+        let u : (shown s) .unit .0 ≡ o .start .unit = unit-is s ∙ sym (keeps s o (t .holds .sound) op w .start) in
+        let k : (shown s) .at ≡ s .at = unfold shown in refl in
+        let is : List Image = imagesOf (o .did) [] in
+        saved-read s o (drop (s .at) l) r op w (toward-read t)
+        ∙ ap (λ (x : ℕ). pick (eqb (getD (drop x l) 1 0) (image .sign)) (LG (readImage (drop x l))) (LE (o .start .unit) is)) (sym k)
+        ∙ ap (λ (x : ℕ). pick (eqb (getD (drop ((shown s) .at) l) 1 0) (image .sign)) (LG (readImage (drop ((shown s) .at) l))) (LE x is)) (sym u)
+        ∙ ap (λ (x : List Image). pick (eqb (getD (drop ((shown s) .at) l) 1 0) (image .sign)) (LG (readImage (drop ((shown s) .at) l))) (LE ((shown s) .unit .0) x))
+        (sym (images-on l s o op w a))
 
 -- ---- a log that has grown by a record
 

@@ -13,17 +13,18 @@ use lib.Seq.{drop-cons}
 use lib.Dec.{eqb, leb}
 use borrow.Author.Tests.{eq-eqb, ne-eqb, le-leb, lt-leb}
 use Rattle.field.specs.Test.{both, all, pick, given, when, bind, there}
-use Rattle.field.specs.Bytes.{starts, le2, le4, most4}
+use Rattle.field.specs.Bytes.{part, starts, le2, le4, most4}
+use Rattle.field.proofs.Test.{pick-true, pick-false}
 use Rattle.field.proofs.Part.{split}
 use Rattle.page.specs.Page.{rowsOf, keyOf, ascendRecords}
 use Rattle.page.proofs.Rows.{length-rowsOf}
-use Rattle.log.specs.Record.{Begin, Rec, LB, LO, LI, LM, LE, begin, out, into, modify, end, lengthOf, kindOf, carried, size, encode}
+use Rattle.log.specs.Record.{Begin, saves, Image, Rec, LB, LO, LI, LM, LG, LE, out, into, modify, image, lengthOf, kindOf, carried, outs, size, sizes}
 use Rattle.log.specs.Plan.{Step, takeOut, bringIn, point, close, plan}
-use Rattle.log.specs.Log.{Open, State, largest, largestMoved, lkEnded, going, openedBy, lkBy, unitBy, after, beginOk, readBegin, taken, planned, plannedFirst, expected, readRec}
-use Rattle.log.specs.Stand.{stands, standsIn, standsModify, standsOut, standsBegin}
-use Rattle.log.specs.Scan.{bytesOf, latest, keyIn, shown, lost, begun, went, ended, stepped, turned}
+use Rattle.log.specs.Log.{Open, State, largest, largestMoved, lkEnded, going, noting, openedBy, lkBy, unitBy, after, beginOk, savesAt, readBegin, taken, planned, plannedFirst, imagesOf, allBear, readImage, follows, imaged, expected, readRec}
+use Rattle.log.specs.Stand.{stands, standsIn, standsModify, standsOut, standsBegin, standsImage, standsLast}
+use Rattle.log.specs.Scan.{latest, keyIn, shown, lost, begun, went, ended, stepped, saved}
 use Rattle.log.specs.declared.scan.Walk.{Walk}
-use Rattle.log.proofs.Stand.{stands-in}
+use Rattle.log.proofs.Stand.{stands-in, stands-le4, both-none}
 
 -- ---- the largest key moved, record by record
 
@@ -75,21 +76,21 @@ moved-most : (m : ℕ) (did : List Rec) → largestMoved m did ≡ most m (large
 unfolding largestMoved
 moved-most m [] = sym (most-low m 0 (omega arith))
 moved-most m (r ∷ did) =
-    moved-most (largest m (carried r)) did
-    ∙ ap (λ (x : ℕ). most x (largestMoved 0 did)) (largest-most m (carried r))
-    ∙ most-three m (largest 0 (carried r)) (largestMoved 0 did)
-    ∙ ap (most m) (sym (moved-most (largest 0 (carried r)) did))
+    moved-most (largest m (outs r)) did
+    ∙ ap (λ (x : ℕ). most x (largestMoved 0 did)) (largest-most m (outs r))
+    ∙ most-three m (largest 0 (outs r)) (largestMoved 0 did)
+    ∙ ap (most m) (sym (moved-most (largest 0 (outs r)) did))
 
 -- the largest key moved after one record more
-moved-more : (r : Rec) (did : List Rec) → largestMoved 0 (r ∷ did) ≡ largest (largestMoved 0 did) (carried r)
+moved-more : (r : Rec) (did : List Rec) → largestMoved 0 (r ∷ did) ≡ largest (largestMoved 0 did) (outs r)
 unfolding largestMoved
 moved-more r did =
-    moved-most (largest 0 (carried r)) did ∙ most-turn (largest 0 (carried r)) (largestMoved 0 did) ∙ sym (largest-most (largestMoved 0 did) (carried r))
+    moved-most (largest 0 (outs r)) did ∙ most-turn (largest 0 (outs r)) (largestMoved 0 did) ∙ sym (largest-most (largestMoved 0 did) (outs r))
 
 -- ---- the state after a record, by its numbers
 
 -- the unit's first record
-first-of : (r d : Rec) (did : List Rec) → length (carried (getD (r ∷ did) (length did) d)) ≡ pick (eqb (length did) 0) (length (carried r)) (length (carried (getD did (length did - 1) d)))
+first-of : (r d : Rec) (did : List Rec) → length (outs (getD (r ∷ did) (length did) d)) ≡ pick (eqb (length did) 0) (length (outs r)) (length (outs (getD did (length did - 1) d)))
 unfolding pick
 first-of r d [] = refl
 first-of r d (x ∷ did) =
@@ -97,23 +98,26 @@ first-of r d (x ∷ did) =
     let f : suc (length did) - 1 ≡ length did = omega arith in
     rw (e, f)
 
--- after an LO, an LI or an LM
-module _ (s : State) (o : Open) (r : Rec) (op : s .opened ≡ some o) (u : unitBy r (s .unit) ≡ s .unit) (k : lkBy r (s .lk) (some o) ≡ s .lk) (w : openedBy r (some o) ≡ some (going r o)) where
-  shown-went : shown (after s r) ≡ went (shown s) (size r) (length (carried r)) (keyIn r) (largest (largestMoved 0 (o .did)) (carried r))
-  unfolding shown after went given there going bytesOf latest
+-- after an LO, an LI, an LM or an LG
+module _ (s : State) (o : Open) (r : Rec) (op : s .opened ≡ some o) (u : unitBy r (s .unit) ≡ s .unit) (k : lkBy r (s .lk) (some o) ≡ s .lk) (p : Open) (w : openedBy r (some o) ≡ some p) (ps : p .start ≡ o .start) (pd : p .did ≡ r ∷ o .did) where
+  shown-went : shown (after s r) ≡ went (shown s) (size r) (length (outs r)) (keyIn r) (largest (largestMoved 0 (o .did)) (outs r))
+  unfolding shown after went given there sizes latest
   shown-went =
-      let e1 : s .at + size r - (lengthOf begin 0 + (size r + bytesOf (o .did))) ≡ s .at - (lengthOf begin 0 + bytesOf (o .did)) = omega arith in
+      let b : ℕ = size (LB (o .start)) in
+      let e1 : s .at + size r - (b + (size r + sizes (o .did))) ≡ s .at - (b + sizes (o .did)) = omega arith in
       let e2 : suc (length (o .did)) ≡ length (o .did) + 1 = omega arith in
       let e3 : s .at + size r - size r ≡ s .at = omega arith in
       let e4 : suc (length (o .did)) - 1 ≡ length (o .did) = omega arith in
-      rw (op, u, k, w, e1, e4, first-of r (LE 0) (o .did), e2, e3, moved-more r (o .did))
+      rw (op, u, k, w, ps, pd, e1, e4, first-of r (LE 0 []) (o .did), e2, e3, moved-more r (o .did))
 
 -- after an LB
-shown-begun : (s : State) (g : Begin) → s .opened ≡ none → g .unit ≡ s .unit + 1 → shown (after s (LB g)) ≡ begun (shown s)
-unfolding shown after begun given there bytesOf latest unitBy lkBy openedBy size carried kindOf keyIn largestMoved lengthOf
+shown-begun : (s : State) (g : Begin) → s .opened ≡ none → g .unit ≡ s .unit + 1 → shown (after s (LB g)) ≡ begun (shown s) (length (g .saved))
+unfolding shown after begun given there sizes latest unitBy lkBy openedBy size carried outs kindOf keyIn largestMoved lengthOf
 shown-begun s g op u =
-    let e : s .at + 44 - 44 ≡ s .at = omega arith in
-    rw (op, u, e)
+    let n : ℕ = length (g .saved) in
+    let e : s .at + (44 + 16 * n) - (44 + 16 * n + 0) ≡ s .at = omega arith in
+    let f : s .at + (44 + 16 * n) - (44 + 16 * n) ≡ s .at = omega arith in
+    rw (op, u, e, f)
 
 -- LK after a unit has ended
 ended-there : (t : Bool) (k : ℕ) (lk : Option ℕ) → there (pick t (some k) lk) ≡ pick t true (there lk)
@@ -127,13 +131,19 @@ ended-key true k lk = refl
 ended-key false k lk = refl
 
 -- after an LE
-shown-ended : (s : State) (o : Open) (u : ℕ) → s .opened ≡ some o → shown (after s (LE u)) ≡ ended (shown s) (eqb (o .start .type) 1)
+shown-ended : (s : State) (o : Open) (u : ℕ) (is : List Image) → s .opened ≡ some o → shown (after s (LE u is)) ≡ ended (shown s) (eqb (o .start .type) 1)
 unfolding shown after ended unitBy lkBy openedBy lkEnded size carried kindOf lengthOf
-shown-ended s o u op =
+shown-ended s o u is op =
     let t : Bool = eqb (o .start .type) 1 in
     let e : given (some o) (s .lk) (λ (x : Open). pick (eqb (x .start .type) 1) (some (largestMoved 0 (x .did))) (s .lk)) ≡ pick t (some (largestMoved 0 (o .did))) (s .lk) = unfold given in refl in
     let z : there {A = Open} none ≡ false = unfold there in refl in
     rw (op, e, ended-there t (largestMoved 0 (o .did)) (s .lk), ended-key t (largestMoved 0 (o .did)) (s .lk)) (unfold given there in refl)
+
+-- a begin record that is read carries one record or none
+saved-length : (t : Bool) (r : List ℕ) → length (pick t (r ∷ []) []) ≡ pick t 1 0
+unfolding pick
+saved-length true r = refl
+saved-length false r = refl
 
 -- ---- what is read, by one test
 
@@ -172,18 +182,18 @@ module _ (s : State) (o : Open) (op : s .opened ≡ some o) (m : List ℕ) where
 
   out-shown : (org dest k : ℕ) (rs : List (List ℕ)) → length rs ≡ k
       → shown (after s (LO org dest rs)) ≡ went (shown s) (lengthOf out k) k 0 (largest ((shown s) .moved) rs)
-  unfolding size carried kindOf keyIn unitBy lkBy openedBy bind
+  unfolding size carried outs kindOf keyIn unitBy lkBy openedBy bind going
   out-shown org dest k rs n =
       rw (← n)
-      (shown-went s o (LO org dest rs) op refl refl refl ∙ ap (λ (x : ℕ). went (shown s) (lengthOf out (length rs)) (length rs) 0 (largest x rs)) (sym moved-is))
+      (shown-went s o (LO org dest rs) op refl refl (going (LO org dest rs) o) refl refl refl ∙ ap (λ (x : ℕ). went (shown s) (lengthOf out (length rs)) (length rs) 0 (largest x rs)) (sym moved-is))
 
   in-shown : (org dest back : ℕ) (rs : List (List ℕ)) → shown (after s (LI org dest back rs)) ≡ went (shown s) (lengthOf into 0) 0 0 ((shown s) .moved)
-  unfolding size carried kindOf keyIn unitBy lkBy openedBy bind largest
-  in-shown org dest back rs = shown-went s o (LI org dest back rs) op refl refl refl ∙ ap (went (shown s) (lengthOf into 0) 0 0) (sym moved-is)
+  unfolding size carried outs kindOf keyIn unitBy lkBy openedBy bind largest going
+  in-shown org dest back rs = shown-went s o (LI org dest back rs) op refl refl (going (LI org dest back rs) o) refl refl refl ∙ ap (went (shown s) (lengthOf into 0) 0 0) (sym moved-is)
 
   modify-shown : (base old new key : ℕ) → shown (after s (LM base old new key)) ≡ went (shown s) (lengthOf modify 0) 0 key ((shown s) .moved)
-  unfolding size carried kindOf keyIn unitBy lkBy openedBy bind largest
-  modify-shown base old new key = shown-went s o (LM base old new key) op refl refl refl ∙ ap (went (shown s) (lengthOf modify 0) 0 key) (sym moved-is)
+  unfolding size carried outs kindOf keyIn unitBy lkBy openedBy bind largest going
+  modify-shown base old new key = shown-went s o (LM base old new key) op refl refl (going (LM base old new key) o) refl refl refl ∙ ap (went (shown s) (lengthOf modify 0) 0 key) (sym moved-is)
 
   number-is : (shown s) .number .0 ≡ s .number
   unfolding shown
@@ -212,10 +222,10 @@ module _ (s : State) (o : Open) (op : s .opened ≡ some o) (m : List ℕ) where
   step-close : (u : ℕ) → Reads (close u)
   unfolding Reads stepped planned
   step-close u =
-      sym (given-one (λ r. stands (s .number + 1) r m) (λ r. shown (after s r)) lost (LE u)
-      ∙ rw (shown-ended s o u op, number-is))
+      sym (given-one (λ r. stands (s .number + 1) r m) (λ r. shown (after s r)) lost (LE u [])
+      ∙ rw (shown-ended s o u [] op, number-is))
 
-  -- an LI says how many records its LO carried, which is the record before or the unit's first
+  -- an LI says how many records its LO outs, which is the record before or the unit's first
   unfoldable pub Counted : Step → Type 0
   Counted x = (org dest back : ℕ) → x ≡ bringIn org dest back → pick (eqb back 1) ((shown s) .rows) ((shown s) .first) ≡ length (taken back (o .did))
 
@@ -227,16 +237,49 @@ module _ (s : State) (o : Open) (op : s .opened ≡ some o) (m : List ℕ) where
   step-any (close u) f = step-close u
 
   -- the record that an open unit reads next
-  pub open-reads : (x : Step) (xs : List Step) → o .todo ≡ x ∷ xs → Counted x
+  pub open-reads : (x : Step) (xs : List Step) → saves (o .start) ≡ false → o .todo ≡ x ∷ xs → Counted x
       → stepped (shown s) m (eqb (o .start .type) 1) x ≡ given (readRec s m) lost (λ r. shown (after s r))
   unfolding Reads expected plannedFirst
-  open-reads x xs t f =
-      let e : expected (s .unit) (s .opened) m ≡ planned x (o .did) m = rw (op, t) in
+  open-reads x xs v t f =
+      let e : expected (s .unit) (s .opened) m ≡ planned x (o .did) m = rw op (pick-false _ _ _ v ∙ rw t) in
       step-any x f ∙ ap (λ (y : Option Rec). given y lost (λ r. shown (after s r))) (sym (read-is s m (planned x (o .did) m) e))
+
+  -- ---- a put or delete
+
+  image-shown : (i : Image) → shown (after s (LG i)) ≡ went (shown s) (lengthOf image 1) 0 0 ((shown s) .moved)
+  unfolding size carried outs kindOf keyIn unitBy lkBy openedBy bind largest noting
+  image-shown i = shown-went s o (LG i) op refl refl (noting (LG i) o) refl refl refl ∙ ap (went (shown s) (lengthOf image 1) 0 0) (sym moved-is)
+
+  -- the test of an LE reads its number off the bytes
+  last-bears : (u : ℕ) (is : List Image) (t : Bool) → stands (s .number + 1) (LE u is) m ≡ t
+      → both (both (leb 1 (length is)) (allBear (le4 m 4) is)) t ≡ both (both (leb 1 (length is)) (allBear (s .number + 1) is)) t
+  last-bears u is true e = ap (λ (n : ℕ). both (both (leb 1 (length is)) (allBear n is)) true) (stands-le4 (s .number + 1) (LE u is) m e)
+  last-bears u is false e = both-none _ false refl ∙ sym (both-none _ false refl)
+
+  -- the record that an open put or delete reads next
+  pub save-reads : saves (o .start) ≡ true → o .start .unit ≡ s .unit → (eqb (o .start .type) 1 ≡ false)
+      → saved (shown s) m (imagesOf (o .did) []) ≡ given (readRec s m) lost (λ r. shown (after s r))
+  unfolding expected saved imaged standsImage standsLast pick
+  save-reads v u n =
+      let is : List Image = imagesOf (o .did) [] in
+      let un : (shown s) .unit .0 ≡ s .unit = unfold shown in refl in
+      let e : expected (s .unit) (s .opened) m ≡ imaged (s .unit) is m = rw op (pick-true _ _ _ v ∙ rw u) in
+      sym (ap (λ (y : Option Rec). given y lost (λ r. shown (after s r))) (read-is s m (imaged (s .unit) is m) e)
+      ∙ by-mark (eqb (getD m 1 0) (image .sign)) ∙ rw (number-is, un))
+    where
+      by-mark : (t : Bool)
+          → given (bind (pick t (when (follows (imagesOf (o .did) []) (readImage m)) (LG (readImage m)))
+          (when (both (leb 1 (length (imagesOf (o .did) []))) (allBear (le4 m 4) (imagesOf (o .did) []))) (LE (s .unit) (imagesOf (o .did) [])))) (λ r. when (stands (s .number + 1) r m) r)) lost (λ r. shown (after s r))
+          ≡ pick t (pick (both (follows (imagesOf (o .did) []) (readImage m)) (stands (s .number + 1) (LG (readImage m)) m)) (went (shown s) (lengthOf image 1) 0 0 ((shown s) .moved)) lost)
+          (pick (both (both (leb 1 (length (imagesOf (o .did) []))) (allBear (s .number + 1) (imagesOf (o .did) []))) (stands (s .number + 1) (LE (s .unit) (imagesOf (o .did) [])) m)) (ended (shown s) false) lost)
+      by-mark true = given-both (λ r. stands (s .number + 1) r m) (λ r. shown (after s r)) lost _ (LG (readImage m)) ∙ rw (image-shown (readImage m))
+      by-mark false =
+          given-both (λ r. stands (s .number + 1) r m) (λ r. shown (after s r)) lost _ (LE (s .unit) (imagesOf (o .did) []))
+          ∙ rw (last-bears (s .unit) (imagesOf (o .did) []) _ refl, shown-ended s o (s .unit) (imagesOf (o .did) []) op, n)
 
 -- the record that comes next where no unit is open
 pub shut-reads : (s : State) (m : List ℕ) → s .opened ≡ none
-    → pick (standsBegin ((shown s) .number .0 + 1) ((shown s) .unit .0 + 1) m) (begun (shown s)) lost ≡ given (readRec s m) lost (λ r. shown (after s r))
+    → pick (standsBegin ((shown s) .number .0 + 1) ((shown s) .unit .0 + 1) m) (begun (shown s) (pick (savesAt m) 1 0)) lost ≡ given (readRec s m) lost (λ r. shown (after s r))
 unfolding standsBegin expected
 shut-reads s m op =
     let g : Begin = readBegin (s .unit + 1) m in
@@ -247,4 +290,5 @@ shut-reads s m op =
     let r : given (readRec s m) lost (λ r. shown (after s r)) ≡ pick (both (beginOk g) (stands (s .number + 1) (LB g) m)) (shown (after s (LB g))) lost =
     ap (λ (y : Option Rec). given y lost (λ r. shown (after s r))) (read-is s m (when (beginOk g) (LB g)) e)
     ∙ given-both (λ r. stands (s .number + 1) r m) (λ r. shown (after s r)) lost (beginOk g) (LB g) in
-    sym (r ∙ rw (shown-begun s g op gu, n, u))
+    let k : length (g .saved) ≡ pick (savesAt m) 1 0 = unfold readBegin in saved-length (savesAt m) (part 44 16 m) in
+    sym (r ∙ rw (shown-begun s g op gu, n, u, k))

@@ -1,19 +1,22 @@
 -- The ways through the tests of a begin record's type, for `search`. Assumes nothing.
-use Prim.Native.Nat.{ℕ, _+_, _*_, _≤_, _<_}
+use Prim.Native.Nat.{ℕ, _+_, _-_, _*_, _≤_, _<_}
 use native.Mathlib.Nat.{add-zero}
 use native.Mathlib.Omega.{arith}
 use mathlib.Core.Path.{_≡_, refl, sym, ap, _∙_}
 use mathlib.Core.Bool.{Bool, true, false, not}
 use mathlib.Core.List.{List, [], _∷_}
-use lib.ListN.{length, drop, getD}
+use lib.ListN.{length, take, drop, getD, length-drop}
+use lib.Seq.{take-all}
 use lib.Dec.{eqb, leb}
 use borrow.Author.Tests.{eq-eqb, ne-eqb, le-leb, lt-leb, not-true, not-false}
 use Rattle.field.specs.Test.{both, all, pick}
-use Rattle.field.specs.Bytes.{le2}
-use Rattle.field.proofs.Test.{both-end}
+use Rattle.field.specs.Bytes.{part, allZero, le2}
+use Rattle.field.proofs.Test.{both-end, both-true, both-false, pick-true, pick-false}
 use Rattle.field.proofs.Number.{le2-drop}
-use Rattle.log.specs.Record.{Begin}
-use Rattle.log.specs.Log.{onLeaves, listed, compactOk, swapOk, moveOk, typeOk, readFields, readBegin}
+use Rattle.field.proofs.Part.{part-part, length-part}
+use Rattle.page.specs.Page.{rowsOf, ascend, ascendRecords}
+use Rattle.log.specs.Record.{Begin, saves}
+use Rattle.log.specs.Log.{onLeaves, listed, compactOk, swapOk, moveOk, carriesOk, saveOk, typeOk, savesAt, readFields, readBegin}
 use Rattle.log.proofs.Fields.{all-fail, length-readFields, getD-readFields}
 
 module _ (m : List ℕ) where
@@ -137,11 +140,79 @@ module _ (m : List ℕ) where
   move-rest! a pa ha b pb hb f pf hf z pz hz d pd y py =
       sym (sym move-is ∙ rw (← pa, ← pb, ← pf, ← pz, ← pd, eq-eqb a 1 ha, eq-eqb b 1 hb, eq-eqb f 0 hf, not-false z hz, hb, ← py) (both-end _))
 
+  -- ---- put and delete
+
+  saveTests : List Bool
+  saveTests =
+      leb (getD m 16 0) 5 ∷ eqb (getD m 18 0) 0 ∷ eqb (getD m 19 0) 0 ∷ eqb (getD m 17 0) 0 ∷ eqb (le2 m 40) 0 ∷ carriesOk (getD m 16 0) (part 44 16 m ∷ []) ∷ []
+
+  save-is : savesAt m ≡ true → all saveTests ≡ saveOk (readBegin 0 m)
+  unfolding saveTests saveOk readBegin
+  save-is v = rw (length-readFields (getD m 18 0) (drop 20 m), length-readFields (getD m 19 0) (drop 24 m), pick-true (savesAt m) (part 44 16 m ∷ []) [] v)
+
+  module _ (v : savesAt m ≡ true) where
+    pub save-type! : (t : ℕ) → t ≡ getD m 16 0 → 5 < t → false ≡ saveOk (readBegin 0 m)
+    unfolding saveTests
+    save-type! t q f = all-fail saveTests 0 (rw (← q) (lt-leb t 5 f)) ∙ save-is v
+
+    pub save-bases! : (n : ℕ) → n ≡ getD m 18 0 → (n ≡ 0 → ⊥) → false ≡ saveOk (readBegin 0 m)
+    unfolding saveTests
+    save-bases! n q f = all-fail saveTests 1 (ne-eqb (getD m 18 0) 0 (λ z. f (q ∙ z))) ∙ save-is v
+
+    pub save-leaves! : (n : ℕ) → n ≡ getD m 19 0 → (n ≡ 0 → ⊥) → false ≡ saveOk (readBegin 0 m)
+    unfolding saveTests
+    save-leaves! n q f = all-fail saveTests 2 (ne-eqb (getD m 19 0) 0 (λ z. f (q ∙ z))) ∙ save-is v
+
+    pub save-fill! : (n : ℕ) → n ≡ getD m 17 0 → (n ≡ 0 → ⊥) → false ≡ saveOk (readBegin 0 m)
+    unfolding saveTests
+    save-fill! n q f = all-fail saveTests 3 (ne-eqb (getD m 17 0) 0 (λ z. f (q ∙ z))) ∙ save-is v
+
+    pub save-dest! : (n : ℕ) → n ≡ le2 m 40 → (n ≡ 0 → ⊥) → false ≡ saveOk (readBegin 0 m)
+    unfolding saveTests
+    save-dest! n q f = all-fail saveTests 4 (ne-eqb (le2 m 40) 0 (λ z. f (q ∙ z))) ∙ save-is v
+
+    pub save-rest! : (t : ℕ) (pt : t ≡ getD m 16 0) (ht : t ≤ 5) (a : ℕ) (pa : a ≡ getD m 18 0) (ha : a ≡ 0) (b : ℕ) (pb : b ≡ getD m 19 0) (hb : b ≡ 0) (f : ℕ) (pf : f ≡ getD m 17 0) (hf : f ≡ 0)
+        (d : ℕ) (pd : d ≡ le2 m 40) (hd : d ≡ 0) (z : Bool) → z ≡ carriesOk (getD m 16 0) (part 44 16 m ∷ []) → z ≡ saveOk (readBegin 0 m)
+    unfolding saveTests all both
+    save-rest! t pt ht a pa ha b pb hb f pf hf d pd hd z e =
+        sym (sym (save-is v) ∙ rw (← e, ← pt, ← pa, ← pb, ← pf, ← pd, le-leb t 5 ht, eq-eqb a 0 ha, eq-eqb b 0 hb, eq-eqb f 0 hf, eq-eqb d 0 hd) (both-end _))
+
+  -- ---- the record that a put or delete carries
+
+  module _ (room : 60 ≤ length m) where
+    one-row : rowsOf 16 1 (drop 44 m) ≡ part 44 16 m ∷ []
+    unfolding rowsOf part
+    one-row = refl
+
+    value-is : drop 6 (part 44 16 m) ≡ part 50 10 m
+    value-is =
+        let n : length (drop 6 (part 44 16 m)) ≡ 10 = length-drop 6 (part 44 16 m) ∙ rw (length-part 44 16 m room) in
+        sym (take-all 10 (drop 6 (part 44 16 m)) (omega arith)) ∙ (unfold part in part-part 6 10 44 16 m (omega arith) room)
+
+    pub carries-mark! : (z : Bool) → z ≡ ascend 114 99 0 (rowsOf 16 1 (drop 44 m)) → not z ≡ true → false ≡ carriesOk (getD m 16 0) (part 44 16 m ∷ [])
+    unfolding carriesOk
+    carries-mark! z e h = sym (both-false _ _ (sym (e ∙ rw one-row) ∙ not-true z h))
+
+    module _ (z : Bool) (e : z ≡ ascend 114 99 0 (rowsOf 16 1 (drop 44 m))) (h : not z ≡ false) (t : ℕ) (q : t ≡ getD m 16 0) where
+      marked : ascendRecords 0 (part 44 16 m ∷ []) ≡ true
+      marked = sym (e ∙ rw one-row) ∙ not-false z h
+
+      pub carries-put! : (t ≡ 5 → ⊥) → true ≡ carriesOk (getD m 16 0) (part 44 16 m ∷ [])
+      unfolding carriesOk
+      carries-put! f = sym (both-true _ _ marked ∙ rw (← q) (pick-false _ _ _ (ne-eqb t 5 f)))
+
+      pub carries-rest! : t ≡ 5 → (y : Bool) → y ≡ allZero (take (60 - 50) (drop 50 m)) → y ≡ carriesOk (getD m 16 0) (part 44 16 m ∷ [])
+      unfolding carriesOk
+      carries-rest! f y p =
+          let x : y ≡ allZero (drop 6 (part 44 16 m)) = p ∙ ap allZero (sym (value-is ∙ (unfold part in refl))) in
+          x ∙ sym (both-true _ _ marked ∙ rw (← q) (pick-true _ _ _ (eq-eqb t 5 f)))
+
   -- ---- the type
 
   module _ (t : ℕ) (q : t ≡ getD m 16 0) where
-    type-is : typeOk (readBegin 0 m) ≡ pick (eqb t 1) (compactOk (readBegin 0 m)) (pick (eqb t 2) (swapOk (readBegin 0 m)) (both (eqb t 3) (moveOk (readBegin 0 m))))
-    unfolding typeOk
+    type-is : typeOk (readBegin 0 m)
+        ≡ pick (eqb t 1) (compactOk (readBegin 0 m)) (pick (eqb t 2) (swapOk (readBegin 0 m)) (pick (leb 4 t) (saveOk (readBegin 0 m)) (both (eqb t 3) (moveOk (readBegin 0 m)))))
+    unfolding typeOk saves
     type-is = let e : readBegin 0 m .type ≡ t = unfold readBegin in sym q in rw e
 
     pub type-compact! : (z : Bool) → t ≡ 1 → z ≡ compactOk (readBegin 0 m) → z ≡ typeOk (readBegin 0 m)
@@ -157,8 +228,25 @@ module _ (m : List ℕ) where
     type-move! z h e =
         let n : eqb t 1 ≡ false = ne-eqb t 1 (λ x. omega arith) in
         let k : eqb t 2 ≡ false = ne-eqb t 2 (λ x. omega arith) in
-        sym (type-is ∙ rw (n, k, eq-eqb t 3 h, ← e))
+        let j : leb 4 t ≡ false = lt-leb 4 t (omega arith) in
+        sym (type-is ∙ rw (n, k, j, eq-eqb t 3 h, ← e))
 
-    pub type-none! : (t ≡ 1 → ⊥) → (t ≡ 2 → ⊥) → (t ≡ 3 → ⊥) → false ≡ typeOk (readBegin 0 m)
+    pub type-none! : t ≡ 0 → false ≡ typeOk (readBegin 0 m)
     unfolding pick both
-    type-none! a b c = sym (type-is ∙ rw (ne-eqb t 1 a, ne-eqb t 2 b, ne-eqb t 3 c))
+    type-none! h =
+        let n : eqb t 1 ≡ false = ne-eqb t 1 (λ x. omega arith) in
+        let k : eqb t 2 ≡ false = ne-eqb t 2 (λ x. omega arith) in
+        let i : eqb t 3 ≡ false = ne-eqb t 3 (λ x. omega arith) in
+        let j : leb 4 t ≡ false = lt-leb 4 t (omega arith) in
+        sym (type-is ∙ rw (n, k, j, i))
+
+    -- any other type is a put's or a delete's, or none
+    pub other-saves : (t ≡ 0 → ⊥) → (t ≡ 1 → ⊥) → (t ≡ 2 → ⊥) → (t ≡ 3 → ⊥) → savesAt m ≡ true
+    unfolding savesAt
+    other-saves z a b c = rw (← q) (le-leb 4 t (omega arith))
+
+    pub type-save! : (z : Bool) → (t ≡ 0 → ⊥) → (t ≡ 1 → ⊥) → (t ≡ 2 → ⊥) → (t ≡ 3 → ⊥) → z ≡ saveOk (readBegin 0 m) → z ≡ typeOk (readBegin 0 m)
+    unfolding pick
+    type-save! z n a b c e =
+        let j : leb 4 t ≡ true = le-leb 4 t (omega arith) in
+        sym (type-is ∙ rw (ne-eqb t 1 a, ne-eqb t 2 b, j, ← e))

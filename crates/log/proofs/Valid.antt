@@ -1,17 +1,17 @@
 -- Laws of records that may come next, of chains of them, and of logs made of one. Assumes nothing.
 use Prim.Native.Nat.{ℕ, zero, suc, _+_, _≤_}
-use mathlib.Core.Path.{_≡_}
-use mathlib.Core.Bool.{Bool, true}
+use mathlib.Core.Path.{refl, _≡_}
+use mathlib.Core.Bool.{Bool, true, false}
 use mathlib.Core.List.{List, [], _∷_, _++_}
 use mathlib.Core.Option.{Option, some, none}
 use lib.ListN.{length, take}
 use Rattle.field.specs.Bytes.{Bytes, most4}
 use Rattle.page.specs.Page.{ascendRecords}
 use Rattle.page.specs.Each.{Each, Long}
-use Rattle.log.specs.Record.{Check, Begin, Rec, LB, LO, LI, LM, LE, carried}
+use Rattle.log.specs.Record.{Check, Begin, saves, Image, Rec, LB, LO, LI, LM, LG, LE, kindOf, carried}
 use Rattle.log.specs.Plan.{Step, takeOut, bringIn, point, close}
-use Rattle.log.specs.Log.{Open, State, first, after, afterAll, beginOk, taken, Log}
-use Rattle.log.specs.Valid.{Moved, Does, does-out, does-in, does-point, does-close, Follows, begins, goes, Fits, Valid, nil, cons, Small, Good}
+use Rattle.log.specs.Log.{Open, State, first, after, afterAll, allBear, Log}
+use Rattle.log.specs.Valid.{Moved, Does, does-out, does-in, does-point, does-close, Logs, logs-image, logs-end, Bears, Follows, begins, goes, logs, Fits, Valid, nil, cons, Small, Good}
 use Rattle.log.proofs.Record.{Sized, Narrow}
 use Rattle.log.proofs.State.{Every}
 use Rattle.log.proofs.Begin.{beginOk-narrow}
@@ -20,7 +20,7 @@ use Rattle.log.proofs.Begin.{beginOk-narrow}
 
 -- a record that does a step has rows of 16 bytes
 pub does-sized : {did : List Rec} {x : Step} {r : Rec} → Does did x r → Sized r
-unfolding carried
+unfolding carried kindOf
 does-sized (does-out m) = m .long
 does-sized (does-in e) = Each.nil
 does-sized (does-point h) = Each.nil
@@ -33,16 +33,28 @@ does-narrow (does-in e) = tt
 does-narrow (does-point h) = tt
 does-narrow does-close = tt
 
+-- a record that does a step has no image, so that all of them bear its number
+pub does-bears : {did : List Rec} {x : Step} {r : Rec} (n : ℕ) → Does did x r → Bears n r
+unfolding allBear
+does-bears n (does-out m) = tt
+does-bears n (does-in e) = tt
+does-bears n (does-point h) = tt
+does-bears n does-close = refl
+
 -- a record that may come next has rows of 16 bytes
 pub follows-sized : {u : ℕ} {o : Option Open} {r : Rec} → Follows u o r → Sized r
-unfolding carried
-follows-sized (begins e ok) = Each.nil
-follows-sized (goes e d) = does-sized d
+unfolding carried kindOf
+follows-sized (begins e ok l b) = l
+follows-sized (goes s e d) = does-sized d
+follows-sized (logs s (logs-image {i = i} f l b)) = Each.cons {r = i .bytes} l Each.nil
+follows-sized (logs s (logs-end h)) = Each.nil
 
 -- a record that may come next fits its bytes
 pub follows-narrow : {u : ℕ} {o : Option Open} {r : Rec} → Follows u o r → Narrow r
-follows-narrow (begins {g = g} e ok) = beginOk-narrow g ok
-follows-narrow (goes e d) = does-narrow d
+follows-narrow (begins {g = g} e ok l b) = beginOk-narrow g ok b
+follows-narrow (goes s e d) = does-narrow d
+follows-narrow (logs s (logs-image f l b)) = b
+follows-narrow (logs s (logs-end h)) = tt
 
 -- all records of a chain have rows of 16 bytes
 pub valid-sized : {s : State} {rs : List Rec} → Valid s rs → Every Sized rs

@@ -4,28 +4,29 @@ use Prim.Native.Nat.{ℕ, zero, suc, _+_, _≤_, _<_}
 use native.Mathlib.Nat.{not-suc-le-zero}
 use native.Mathlib.Omega.{arith}
 use mathlib.Core.Path.{_≡_, refl, sym, ap, ap₂, _∙_}
-use mathlib.Core.Bool.{true}
+use mathlib.Core.Bool.{Bool, true, false}
 use mathlib.Core.List.{List, [], _∷_, _++_, append-assoc}
 use mathlib.Core.Option.{Option, some, none}
-use lib.ListN.{length, drop, getD, length-append}
-use lib.Seq.{drop-drop, drop-at}
-use lib.Dec.{eqb}
-use borrow.Author.Tests.{eq-eqb, ne-eqb, le-leb}
-use Rattle.field.specs.Test.{all, pick, when}
-use Rattle.field.specs.Bytes.{zeroes, allZero, starts, le2, le4, bytes2, bytes4, most4}
-use Rattle.field.proofs.Test.{all-nil, all-intro, pick-true, pick-false, when-true, bind-intro}
+use lib.ListN.{length, take, drop, getD, length-append}
+use lib.Seq.{drop-drop, drop-at, take-at}
+use lib.Dec.{eqb, leb}
+use borrow.Author.Tests.{eq-eqb, ne-eqb, le-leb, leb-true}
+use Rattle.field.specs.Test.{both, all, pick, when}
+use Rattle.field.specs.Bytes.{part, zeroes, allZero, starts, le2, le4, bytes2, bytes4, most4}
+use Rattle.field.proofs.Test.{both-intro, all-head, all-tail, all-nil, all-intro, pick-true, pick-false, when-true, bind-intro}
 use Rattle.field.proofs.Number.{le2-drop, le4-drop, le2-bytes2, le4-bytes4}
 use Rattle.field.proofs.Zero.{all-zeroes}
 use Rattle.field.proofs.Same.{starts-append}
 use Rattle.page.specs.Page.{joined, firstBase, lastBase, firstLeaf, lastLeaf}
+use Rattle.page.specs.Each.{Each, Long}
 use Rattle.page.proofs.Rows.{rowsOf-joined}
-use Rattle.log.specs.Record.{lengthOf, Check, Begin, Rec, LB, LO, LM, size, header, fields, lkBytes, encodeCheck, newKey, body, encode, encodeAll}
+use Rattle.log.specs.Record.{image, lengthOf, kindOf, carried, Check, Begin, saves, Image, Rec, LB, LO, LM, LG, LE, size, sizes, header, fields, lkBytes, encodeCheck, newKey, body, encode, encodeAll}
 use Rattle.log.specs.Plan.{Step}
-use Rattle.log.specs.Log.{Open, State, first, after, within, beginOk, readFields, readBegin, planned, plannedFirst, expected, readRec, readRecs, readCheck, Log, readLog, encodeLog}
-use Rattle.log.proofs.Record.{length-fields, length-encodeCheck, length-encode, encode-first}
-use Rattle.log.proofs.State.{sizes, sizes-least, length-encodeAll}
-use Rattle.log.proofs.Begin.{Limits, within-head, within-tail, beginOk-limits, beginOk-bases, beginOk-leaves}
-use Rattle.log.specs.Valid.{Does, does-out, does-in, does-point, does-close, Follows, begins, goes, Fits, Valid, Small, Good}
+use Rattle.log.specs.Log.{Open, State, first, after, within, beginOk, readFields, savesAt, readBegin, planned, plannedFirst, imagesOf, allBear, readImage, follows, imaged, expected, readRec, readRecs, readCheck, Log, readLog, encodeLog}
+use Rattle.log.specs.Valid.{Does, does-out, does-in, does-point, does-close, Logs, logs-image, logs-end, Bears, Follows, begins, goes, logs, Fits, Valid, Small, Good}
+use Rattle.log.proofs.Record.{length-fields, length-encodeCheck, length-encode, encode-first, number-read}
+use Rattle.log.proofs.State.{sizes-least, length-encodeAll}
+use Rattle.log.proofs.Begin.{Limits, within-head, within-tail, beginOk-limits, beginOk-bases, beginOk-leaves, beginOk-saved}
 use Rattle.log.proofs.Valid.{follows-sized, valid-sized}
 
 -- ---- a begin record
@@ -41,29 +42,51 @@ readFields-fields from to (suc n) (p ∷ ps) rest h k w =
     ap₂ (λ (x : ℕ) (xs : List ℕ). x ∷ xs) (le2-bytes2 p (fields n ps ++ rest) (omega arith))
     (readFields-fields from to n ps rest h (omega arith) (within-tail from to p ps w))
 
-module _ (n : ℕ) (g : Begin) (rest : List ℕ) (ok : beginOk g ≡ true) where
+module _ (n : ℕ) (g : Begin) (rest : List ℕ) (ok : beginOk g ≡ true) (long : Each (Long 16) (g .saved)) where
   -- what stands from the base pages on
-  bases-on : drop 20 (encode n (LB g) ++ rest) ≡ fields 2 (g .bases) ++ (fields 8 (g .leaves) ++ (bytes2 (g .dest) ++ (bytes2 0 ++ rest)))
+  bases-on : drop 20 (encode n (LB g) ++ rest) ≡ fields 2 (g .bases) ++ (fields 8 (g .leaves) ++ (bytes2 (g .dest) ++ (bytes2 0 ++ (joined (g .saved) ++ rest))))
   unfolding encode header body bytes2 bytes4
   bases-on = simp append-assoc
 
   -- from the leaves on
-  leaves-on : drop 24 (encode n (LB g) ++ rest) ≡ fields 8 (g .leaves) ++ (bytes2 (g .dest) ++ (bytes2 0 ++ rest))
+  leaves-on : drop 24 (encode n (LB g) ++ rest) ≡ fields 8 (g .leaves) ++ (bytes2 (g .dest) ++ (bytes2 0 ++ (joined (g .saved) ++ rest)))
   leaves-on =
       sym (drop-drop 4 20 (encode n (LB g) ++ rest))
-      ∙ rw bases-on (drop-at (fields 2 (g .bases)) (fields 8 (g .leaves) ++ (bytes2 (g .dest) ++ (bytes2 0 ++ rest))) 4 (length-fields 2 (g .bases)))
+      ∙ rw bases-on (drop-at (fields 2 (g .bases)) (fields 8 (g .leaves) ++ (bytes2 (g .dest) ++ (bytes2 0 ++ (joined (g .saved) ++ rest)))) 4 (length-fields 2 (g .bases)))
 
   -- from the destination on
-  dest-on : drop 40 (encode n (LB g) ++ rest) ≡ bytes2 (g .dest) ++ (bytes2 0 ++ rest)
+  dest-on : drop 40 (encode n (LB g) ++ rest) ≡ bytes2 (g .dest) ++ (bytes2 0 ++ (joined (g .saved) ++ rest))
   dest-on =
       sym (drop-drop 16 24 (encode n (LB g) ++ rest))
-      ∙ rw leaves-on (drop-at (fields 8 (g .leaves)) (bytes2 (g .dest) ++ (bytes2 0 ++ rest)) 16 (length-fields 8 (g .leaves)))
+      ∙ rw leaves-on (drop-at (fields 8 (g .leaves)) (bytes2 (g .dest) ++ (bytes2 0 ++ (joined (g .saved) ++ rest))) 16 (length-fields 8 (g .leaves)))
 
   -- the four bytes in front of the listed pages
   four-on : (getD (encode n (LB g) ++ rest) 16 0 ≡ g .type) × (getD (encode n (LB g) ++ rest) 17 0 ≡ g .fill)
       × (getD (encode n (LB g) ++ rest) 18 0 ≡ length (g .bases)) × (getD (encode n (LB g) ++ rest) 19 0 ≡ length (g .leaves))
   unfolding encode header body bytes2 bytes4
   four-on = (refl, refl, refl, refl)
+
+  -- from the carried record on
+  saved-on : drop 44 (encode n (LB g) ++ rest) ≡ joined (g .saved) ++ rest
+  saved-on = sym (drop-drop 4 40 (encode n (LB g) ++ rest)) ∙ rw dest-on (unfold bytes2 in refl)
+
+  -- how many records it carries
+  saved-count : (t : Bool) → leb 4 (g .type) ≡ t → length (g .saved) ≡ pick t 1 0
+  unfolding saves
+  saved-count t e = rw e at (beginOk-saved g ok)
+
+  -- the record that it carries, if any
+  saved-read : (t : Bool) → leb 4 (g .type) ≡ t → (rs : List (List ℕ)) → g .saved ≡ rs
+      → pick t (part 44 16 (encode n (LB g) ++ rest) ∷ []) [] ≡ g .saved
+  saved-read true e [] c = absurd (let z : length (g .saved) ≡ 1 = (unfold pick in saved-count true e) in let y : length (g .saved) ≡ 0 = ap length c in omega arith)
+  saved-read true e (r ∷ r2 ∷ rs) c = absurd (let z : length (g .saved) ≡ 1 = (unfold pick in saved-count true e) in let y : length (g .saved) ≡ suc (suc (length rs)) = ap length c in omega arith)
+  saved-read true e (r ∷ []) c = unfold pick part joined in
+      (ap (λ (l : List ℕ). take 16 l ∷ []) (saved-on ∙ ap (λ (rs : List (List ℕ)). joined rs ++ rest) c) ∙ one (rw c at long) ∙ sym c)
+    where
+      one : Each (Long 16) (r ∷ []) → take 16 ((r ++ []) ++ rest) ∷ [] ≡ r ∷ []
+      one (Each.cons h p) = ap (λ (l : List ℕ). l ∷ []) (ap (take 16) (append-assoc r [] rest) ∙ take-at r rest 16 h)
+  saved-read false e [] c = unfold pick in (sym c)
+  saved-read false e (r ∷ rs) c = absurd (let z : length (g .saved) ≡ 0 = (unfold pick in saved-count false e) in let y : length (g .saved) ≡ suc (length rs) = ap length c in omega arith)
 
   -- a begin record is read as it was written
   pub readBegin-encode : readBegin (g .unit) (encode n (LB g) ++ rest) ≡ g
@@ -72,11 +95,12 @@ module _ (n : ℕ) (g : Begin) (rest : List ℕ) (ok : beginOk g ≡ true) where
       let l : List ℕ = encode n (LB g) ++ rest in
       let m : Limits g = beginOk-limits g ok in
       let bs : readFields (getD l 18 0) (drop 20 l) ≡ g .bases =
-      rw (four-on .2, bases-on) (readFields-fields firstBase lastBase 2 (g .bases) (fields 8 (g .leaves) ++ (bytes2 (g .dest) ++ (bytes2 0 ++ rest))) (omega arith) (m .bases) (beginOk-bases g ok)) in
+      rw (four-on .2, bases-on) (readFields-fields firstBase lastBase 2 (g .bases) (fields 8 (g .leaves) ++ (bytes2 (g .dest) ++ (bytes2 0 ++ (joined (g .saved) ++ rest)))) (omega arith) (m .bases) (beginOk-bases g ok)) in
       let ls : readFields (getD l 19 0) (drop 24 l) ≡ g .leaves =
-      rw (four-on .3, leaves-on) (readFields-fields firstLeaf lastLeaf 8 (g .leaves) (bytes2 (g .dest) ++ (bytes2 0 ++ rest)) (omega arith) (m .leaves) (beginOk-leaves g ok)) in
-      let d : le2 l 40 ≡ g .dest = sym (le2-drop 40 0 l) ∙ rw dest-on (le2-bytes2 (g .dest) (bytes2 0 ++ rest) (omega arith)) in
-      λ i. record { unit = g .unit; type = four-on .0 i; fill = four-on .1 i; bases = bs i; leaves = ls i; dest = d i }
+      rw (four-on .3, leaves-on) (readFields-fields firstLeaf lastLeaf 8 (g .leaves) (bytes2 (g .dest) ++ (bytes2 0 ++ (joined (g .saved) ++ rest))) (omega arith) (m .leaves) (beginOk-leaves g ok)) in
+      let d : le2 l 40 ≡ g .dest = sym (le2-drop 40 0 l) ∙ rw dest-on (le2-bytes2 (g .dest) (bytes2 0 ++ (joined (g .saved) ++ rest)) (omega arith)) in
+      let s : pick (savesAt l) (part 44 16 l ∷ []) [] ≡ g .saved = unfold savesAt in rw (four-on .0) (saved-read (leb 4 (g .type)) refl (g .saved) refl) in
+      λ i. record { unit = g .unit; type = four-on .0 i; fill = four-on .1 i; bases = bs i; leaves = ls i; dest = d i; saved = s i }
 
 -- ---- one record
 
@@ -108,11 +132,51 @@ planned-encode n rest (does-in e) = rw e
 planned-encode n rest (does-point {base = base} {old = old} {new = new} {key = key} h) = rw (point-key n base old new key rest h)
 planned-encode n rest does-close = refl
 
+-- the marks of an LG and of an LE
+sign-image : (n : ℕ) (i : Image) (rest : List ℕ) → getD (encode n (LG i) ++ rest) 1 0 ≡ 71
+unfolding encode header kindOf
+sign-image n i rest = refl
+
+sign-end : (n u : ℕ) (is : List Image) (rest : List ℕ) → getD (encode n (LE u is) ++ rest) 1 0 ≡ 69
+unfolding encode header kindOf
+sign-end n u is rest = refl
+
+follows-small : (is : List Image) (i : Image) → follows is i ≡ true → i .at ≤ lastLeaf
+unfolding follows
+follows-small is i e = leb-true (i .at) lastLeaf (all-head _ _ (all-tail _ _ e))
+
+-- an LG's image
+image-read : (n : ℕ) (i : Image) (rest : List ℕ) → i .at ≤ lastLeaf → length (i .bytes) ≡ 256 → readImage (encode n (LG i) ++ rest) ≡ i
+unfolding readImage
+image-read n i rest h k = λ j. record { at = at-read j; bytes = bytes-read j }
+  where
+    at-read : le2 (encode n (LG i) ++ rest) 12 ≡ i .at
+    at-read = unfold encode header body bytes2 bytes4 le2 in omega arith
+
+    bytes-read : part 16 256 (encode n (LG i) ++ rest) ≡ i .bytes
+    bytes-read = unfold part encode header body bytes2 bytes4 in take-at (i .bytes) rest 256 k
+
+-- the record of a put or delete
+imaged-encode : {u : ℕ} {is : List Image} {r : Rec} (n : ℕ) (rest : List ℕ) → n ≤ most4 → Bears n r → Logs u is r → imaged u is (encode n r ++ rest) ≡ some r
+unfolding imaged
+imaged-encode {u} {is} n rest h k (logs-image {i = i} f l b) =
+    let l1 : List ℕ = encode n (LG i) ++ rest in
+    let small : i .at ≤ lastLeaf = follows-small is i f in
+    pick-true (eqb (getD l1 1 0) (image .sign)) (when (follows is (readImage l1)) (LG (readImage l1))) _ (eq-eqb (getD l1 1 0) 71 (sign-image n i rest))
+    ∙ rw (image-read n i rest small l) (when-true (follows is i) (LG i) f)
+imaged-encode {u} {is} n rest h k (logs-end m) =
+    let l1 : List ℕ = encode n (LE u is) ++ rest in
+    pick-false (eqb (getD l1 1 0) (image .sign)) _ (when (both (leb 1 (length is)) (allBear (le4 l1 4) is)) (LE u is)) (ne-eqb (getD l1 1 0) 71 (λ e. let z = sign-end n u is rest in omega arith))
+    ∙ rw (number-read n (LE u is) rest h) (when-true _ (LE u is) (both-intro _ _ (le-leb 1 (length is) m) k))
+
 -- the record that a state expects
-expected-encode : {u : ℕ} {o : Option Open} {r : Rec} (n : ℕ) (rest : List ℕ) → Follows u o r → expected u o (encode n r ++ rest) ≡ some r
+expected-encode : {u : ℕ} {o : Option Open} {r : Rec} (n : ℕ) (rest : List ℕ) → n ≤ most4 → Bears n r → Follows u o r → expected u o (encode n r ++ rest) ≡ some r
 unfolding expected plannedFirst
-expected-encode n rest (begins {g = g} e ok) = rw (← e, readBegin-encode n g rest ok) (when-true (beginOk g) (LB g) ok)
-expected-encode n rest (goes e d) = rw e (planned-encode n rest d)
+expected-encode n rest h k (begins {g = g} e ok l b) = rw (← e, readBegin-encode n g rest ok l) (when-true (beginOk g) (LB g) ok)
+expected-encode n rest h k (goes {o = o} {r = r} s e d) =
+    pick-false (saves (o .start)) (imaged (o .start .unit) (imagesOf (o .did) []) (encode n r ++ rest)) _ s ∙ rw e (planned-encode n rest d)
+expected-encode n rest h k (logs {o = o} {r = r} s m) =
+    pick-true (saves (o .start)) (imaged (o .start .unit) (imagesOf (o .did) []) (encode n r ++ rest)) _ s ∙ imaged-encode n rest h k m
 
 -- a record that may come next is read as it was written
 pub readRec-encode : (s : State) (r : Rec) (rest : List ℕ) → Fits s r → readRec s (encode (s .number + 1) r ++ rest) ≡ some r
@@ -120,7 +184,7 @@ unfolding readRec
 readRec-encode s r rest f =
     let n : ℕ = s .number + 1 in
     let h : size r ≤ length (encode n r ++ rest) = omega (arith, length-append (encode n r) rest, length-encode n r (follows-sized (f .follows))) in
-    bind-intro (expected (s .unit) (s .opened) (encode n r ++ rest)) _ r (expected-encode n rest (f .follows))
+    bind-intro (expected (s .unit) (s .opened) (encode n r ++ rest)) _ r (expected-encode n rest (f .room) (f .bears) (f .follows))
     ∙ when-true _ r
     (all-intro _ _ (le-leb n most4 (f .room)) (all-intro _ _ (le-leb (size r) (length (encode n r ++ rest)) h) (all-intro _ _ (starts-append (encode n r) rest) all-nil)))
 

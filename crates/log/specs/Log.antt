@@ -1,7 +1,7 @@
 -- Document 01, "Log form": "A log is one LC, then whole units numbered one above the last, the final one perhaps cut short; all bytes
 -- after are zero." A record is read by filling the step that must come next with the bytes that the step leaves free (LO's records,
--- LM's key) and comparing all of the record's bytes with those that would have been written: so every mark, length, number, page and zero
--- field is tested at once. Assumes nothing.
+-- LM's key; in a put or delete an LG's page and image) and comparing all of the record's bytes with those that would have been written: so
+-- every mark, length, number, page and zero field is tested at once. Assumes nothing.
 use Prim.Native.Nat.{ℕ, zero, suc, _+_, _-_}
 use mathlib.Core.Bool.{Bool, true, false, not}
 use mathlib.Core.List.{List, [], _∷_, _++_}
@@ -9,10 +9,10 @@ use mathlib.Core.Option.{Option, some, none}
 use lib.ListN.{length, drop, getD}
 use lib.Dec.{eqb, leb}
 use Rattle.field.specs.Test.{both, all, pick, given, when, bind}
-use Rattle.field.specs.Bytes.{allZero, starts, le2, le4, most4}
-use Rattle.page.specs.Page.{rowsOf, keyOf, ascendRecords, firstBase, lastBase, firstLeaf, lastLeaf}
-use Rattle.log.specs.Record.{typeAt, fillAt, baseCountAt, leafCountAt, basesAt, leavesAt, destAt}
-use Rattle.log.specs.Record.{check, lengthOf, Check, Begin, Rec, LB, LO, LI, LM, LE, carried, size, encodeCheck, encode, encodeAll}
+use Rattle.field.specs.Bytes.{part, allZero, starts, le2, le4, most4}
+use Rattle.page.specs.Page.{rowsOf, keyOf, ascendRecords, number, firstBase, lastBase, firstLeaf, lastLeaf, formed}
+use Rattle.log.specs.Record.{begin, typeAt, fillAt, baseCountAt, leafCountAt, basesAt, leavesAt, destAt}
+use Rattle.log.specs.Record.{check, image, lengthOf, Check, Begin, saves, Image, Rec, LB, LO, LI, LM, LG, LE, outs, size, encodeCheck, encode, encodeAll}
 use Rattle.log.specs.Plan.{Step, takeOut, bringIn, point, close, plan}
 
 -- ---- what is known after a record
@@ -42,7 +42,7 @@ largest m (r ∷ rs) = largest (pick (leb m (keyOf r)) (keyOf r) m) rs
 
 unfoldable pub largestMoved : (m : ℕ) → List Rec → ℕ
 largestMoved m [] = m
-largestMoved m (r ∷ did) = largestMoved (largest m (carried r)) did
+largestMoved m (r ∷ did) = largestMoved (largest m (outs r)) did
 
 -- "LK is the check record's, or the largest key moved by the last ended compact unit": LK after the unit has ended
 unfoldable pub lkEnded : (lk : Option ℕ) → Open → Option ℕ
@@ -52,27 +52,34 @@ lkEnded lk o = pick (eqb (o .start .type) 1) (some (largestMoved 0 (o .did))) lk
 unfoldable pub going : Rec → Open → Open
 going r o = record { start = o .start; did = r ∷ o .did; todo = drop 1 (o .todo) }
 
+-- the open unit with one record more that was no planned step: an LG
+unfoldable pub noting : Rec → Open → Open
+noting r o = record { start = o .start; did = r ∷ o .did; todo = o .todo }
+
 -- LB opens a unit, LE ends it
 unfoldable pub openedBy : Rec → Option Open → Option Open
 openedBy (LB g) o = some (record { start = g; did = []; todo = plan g })
 openedBy (LO org dest rs) o = bind o (λ x. some (going (LO org dest rs) x))
 openedBy (LI org dest back rs) o = bind o (λ x. some (going (LI org dest back rs) x))
 openedBy (LM base old new key) o = bind o (λ x. some (going (LM base old new key) x))
-openedBy (LE unit) o = none
+openedBy (LG i) o = bind o (λ x. some (noting (LG i) x))
+openedBy (LE unit images) o = none
 
 unfoldable pub lkBy : Rec → (lk : Option ℕ) → Option Open → Option ℕ
 lkBy (LB g) lk o = lk
 lkBy (LO org dest rs) lk o = lk
 lkBy (LI org dest back rs) lk o = lk
 lkBy (LM base old new key) lk o = lk
-lkBy (LE unit) lk o = given o lk (lkEnded lk)
+lkBy (LG i) lk o = lk
+lkBy (LE unit images) lk o = given o lk (lkEnded lk)
 
 unfoldable pub unitBy : Rec → (unit : ℕ) → ℕ
 unitBy (LB g) u = g .unit
 unitBy (LO org dest rs) u = u
 unitBy (LI org dest back rs) u = u
 unitBy (LM base old new key) u = u
-unitBy (LE unit) u = u
+unitBy (LG i) u = u
+unitBy (LE unit images) u = u
 
 -- after the record r
 unfoldable pub after : State → Rec → State
@@ -127,13 +134,24 @@ unfoldable pub moveOk : Begin → Bool
 moveOk g =
     all (eqb (length (g .bases)) 1 ∷ eqb (length (g .leaves)) 1 ∷ eqb (g .fill) 0 ∷ onLeaves (g .dest ∷ []) ∷ not (listed (g .dest) (g .leaves)) ∷ [])
 
-unfoldable pub typeOk : Begin → Bool
-typeOk g = pick (eqb (g .type) 1) (compactOk g) (pick (eqb (g .type) 2) (swapOk g) (both (eqb (g .type) 3) (moveOk g)))
+-- the record of a put bears its mark; that of a delete has no value
+unfoldable pub carriesOk : (type : ℕ) → List (List ℕ) → Bool
+carriesOk t rs = both (ascendRecords 0 rs) (pick (eqb t 5) (allZero (drop 6 (getD rs 0 []))) true)
 
--- listed pages keep to their regions and differ
+-- a put or delete lists nothing
+unfoldable pub saveOk : Begin → Bool
+saveOk g =
+    all (leb (g .type) 5 ∷ eqb (length (g .bases)) 0 ∷ eqb (length (g .leaves)) 0 ∷ eqb (g .fill) 0 ∷ eqb (g .dest) 0 ∷ carriesOk (g .type) (g .saved) ∷ [])
+
+unfoldable pub typeOk : Begin → Bool
+typeOk g =
+    pick (eqb (g .type) 1) (compactOk g) (pick (eqb (g .type) 2) (swapOk g) (pick (saves g) (saveOk g) (both (eqb (g .type) 3) (moveOk g))))
+
+-- listed pages keep to their regions and differ; one record is carried, or none
 unfoldable pub beginOk : Begin → Bool
 beginOk g =
-    all (leb (g .unit) most4 ∷ typeOk g ∷ onBases (g .bases) ∷ differ (g .bases) ∷ onLeaves (g .leaves) ∷ differ (g .leaves) ∷ [])
+    all (leb (g .unit) most4 ∷ typeOk g ∷ onBases (g .bases) ∷ differ (g .bases) ∷ onLeaves (g .leaves) ∷ differ (g .leaves)
+    ∷ eqb (length (g .saved)) (pick (saves g) 1 0) ∷ [])
 
 -- ---- a record read: what the bytes l say, and then whether they say just that
 
@@ -141,6 +159,10 @@ beginOk g =
 unfoldable pub readFields : (n : ℕ) → List ℕ → List ℕ
 readFields zero l = []
 readFields (suc n) l = le2 l 0 ∷ readFields n (drop 2 l)
+
+-- the begin record at the front of l is a put's or a delete's
+unfoldable pub savesAt : (l : List ℕ) → Bool
+savesAt l = leb 4 (getD l typeAt 0)
 
 -- the begin record of this unit
 unfoldable pub readBegin : (unit : ℕ) → List ℕ → Begin
@@ -152,11 +174,12 @@ readBegin u l =
       bases = readFields (getD l baseCountAt 0) (drop basesAt l);
       leaves = readFields (getD l leafCountAt 0) (drop leavesAt l);
       dest = le2 l destAt;
+      saved = pick (savesAt l) (part (begin .fixed) (begin .each) l ∷ []) [];
     }
 
 -- the records of the LO that stands `back` records before; did has the latest first
 unfoldable pub taken : (back : ℕ) → List Rec → List (List ℕ)
-taken back did = carried (getD did (back - 1) (LE 0))
+taken back did = outs (getD did (back - 1) (LE 0 []))
 
 -- the record of a planned step: LO's records, 1 to 15 that bear marks and ascend, and LM's key are read off l
 unfoldable pub planned : Step → (did : List Rec) → (l : List ℕ) → Option Rec
@@ -166,16 +189,51 @@ planned (takeOut org dest) did l =
     when (all (leb 1 k ∷ leb k 15 ∷ ascendRecords 0 rs ∷ [])) (LO org dest rs)
 planned (bringIn org dest back) did l = some (LI org dest back (taken back did))
 planned (point base old new other) did l = some (LM base old new (le4 l 20))
-planned (close unit) did l = some (LE unit)
+planned (close unit) did l = some (LE unit [])
 
 unfoldable pub plannedFirst : List Step → (did : List Rec) → (l : List ℕ) → Option Rec
 plannedFirst [] did l = none
 plannedFirst (x ∷ xs) did l = planned x did l
 
+-- the images of a unit's LGs, in the log's order; did has the latest first, and those of `more` come behind
+unfoldable pub imagesOf : (did : List Rec) → (more : List Image) → List Image
+imagesOf [] more = more
+imagesOf (LB g ∷ did) more = imagesOf did more
+imagesOf (LO org dest rs ∷ did) more = imagesOf did more
+imagesOf (LI org dest back rs ∷ did) more = imagesOf did more
+imagesOf (LM base old new key ∷ did) more = imagesOf did more
+imagesOf (LG i ∷ did) more = imagesOf did (i ∷ more)
+imagesOf (LE unit images ∷ did) more = imagesOf did more
+
+-- the least page whose image may follow these: one above the last one's, p where there is none
+unfoldable pub past : (p : ℕ) → List Image → ℕ
+past p [] = p
+past p (i ∷ is) = past (i .at + 1) is
+
+-- "Images bear LE's number"
+unfoldable pub allBear : (n : ℕ) → List Image → Bool
+allBear n [] = true
+allBear n (i ∷ is) = let rest = allBear n is in both (eqb (number (i .bytes)) n) rest
+
+-- the image of the LG at the front of l
+unfoldable pub readImage : (l : List ℕ) → Image
+readImage l = record { at = le2 l 12; bytes = part (image .fixed) (image .each) l }
+
+-- an image that may follow these: of a later page, in the form of its page
+unfoldable pub follows : (is : List Image) → Image → Bool
+follows is i = all (leb (past 0 is) (i .at) ∷ leb (i .at) lastLeaf ∷ formed (i .at) (i .bytes) ∷ [])
+
+-- the next record of a put or delete with these images: an LG, or, once there is an image, the LE, whose number is read off l
+unfoldable pub imaged : (unit : ℕ) (is : List Image) → (l : List ℕ) → Option Rec
+imaged u is l =
+    pick (eqb (getD l 1 0) (image .sign)) (when (follows is (readImage l)) (LG (readImage l)))
+    (when (both (leb 1 (length is)) (allBear (le4 l 4) is)) (LE u is))
+
 -- the record that must come next: an LB where no unit is open
 unfoldable pub expected : (unit : ℕ) → Option Open → (l : List ℕ) → Option Rec
 expected u none l = let g : Begin = readBegin (u + 1) l in when (beginOk g) (LB g)
-expected u (some o) l = plannedFirst (o .todo) (o .did) l
+expected u (some o) l =
+    pick (saves (o .start)) (imaged (o .start .unit) (imagesOf (o .did) []) l) (plannedFirst (o .todo) (o .did) l)
 
 -- the record at the front of l, all of it, its log number one above the last
 unfoldable pub readRec : State → (l : List ℕ) → Option Rec

@@ -1,15 +1,16 @@
--- Document 01, "Log form": the record kinds and the bytes of each. A record's log number is no part of it: it is the record's place in
--- the log, and `encode` is told it. Assumes nothing.
+-- Document 01, "Log form", with LG and the longer begin record of document 02, no. 1: the record kinds and the bytes of each. A record's
+-- log number is no part of it: it is the record's place in the log, and `encode` is told it. Assumes nothing.
 use Prim.Native.Nat.{ℕ, zero, suc, _+_, _-_, _*_}
+use mathlib.Core.Bool.{Bool}
 use mathlib.Core.List.{List, [], _∷_, _++_}
 use mathlib.Core.Option.{Option, some, none}
 use lib.ListN.{length}
-use lib.Dec.{eqb}
+use lib.Dec.{eqb, leb}
 use Rattle.field.specs.Test.{pick}
 use Rattle.field.specs.Bytes.{zeroes, bytes2, bytes4}
 use Rattle.page.specs.Page.{joined}
 
--- ---- the table of record kinds: the mark's second letter (the first is always `L`), the fixed length, the bytes of each record carried
+-- ---- the table of record kinds: the mark's second letter (the first is always `L`), the fixed length, the bytes of each record or image carried
 
 abbrev pub letter : ℕ
 letter = 76
@@ -26,7 +27,7 @@ abbrev pub check : Kind
 check = kind 67 24 0
 
 abbrev pub begin : Kind
-begin = kind 66 44 0
+begin = kind 66 44 16
 
 abbrev pub out : Kind
 out = kind 79 20 16
@@ -36,6 +37,9 @@ into = kind 73 24 0
 
 abbrev pub modify : Kind
 modify = kind 77 28 0
+
+abbrev pub image : Kind
+image = kind 71 16 256
 
 abbrev pub end : Kind
 end = kind 69 16 0
@@ -52,7 +56,8 @@ pub record Check : Type 0 where
   pub unit : ℕ
   pub lk : Option ℕ
 
--- a begin record; type 1 compact, 2 swap, 3 move; the destination is 0 for a swap
+-- a begin record; type 1 compact, 2 swap, 3 move, 4 put, 5 delete; the destination is 0 for a swap. A put or delete lists no page and carries
+-- its record, the others carry none
 pub record Begin : Type 0 where
   pub unit : ℕ
   pub type : ℕ
@@ -60,29 +65,52 @@ pub record Begin : Type 0 where
   pub bases : List ℕ
   pub leaves : List ℕ
   pub dest : ℕ
+  pub saved : List (List ℕ)
 
--- a record after the check record. An LI stands for the records of its LO, which is `back` records before it; an LM whose new page is 0 removes
+-- a put or a delete
+unfoldable pub saves : Begin → Bool
+saves g = leb 4 (g .type)
+
+-- a whole page as an LG has it: the page's number and its bytes
+pub record Image : Type 0 where
+  pub at : ℕ
+  pub bytes : List ℕ
+
+-- a record after the check record. An LI stands for the records of its LO, which is `back` records before it; an LM whose new page is 0 removes;
+-- an LE stands for the images of its unit's LGs, in number order: it is the LE that changes their pages
 pub data Rec : Type 0 where
   LB : (g : Begin) → Rec
   LO : (org dest : ℕ) (rs : List (List ℕ)) → Rec
   LI : (org dest back : ℕ) (rs : List (List ℕ)) → Rec
   LM : (base old new key : ℕ) → Rec
-  LE : (unit : ℕ) → Rec
+  LG : (i : Image) → Rec
+  LE : (unit : ℕ) (images : List Image) → Rec
 
 unfoldable pub kindOf : Rec → Kind
 kindOf (LB g) = begin
 kindOf (LO org dest rs) = out
 kindOf (LI org dest back rs) = into
 kindOf (LM base old new key) = modify
-kindOf (LE unit) = end
+kindOf (LG i) = image
+kindOf (LE unit images) = end
 
--- the records that an LO carries
+-- the records that an LO or an LB carries, the image of an LG
 unfoldable pub carried : Rec → List (List ℕ)
-carried (LB g) = []
+carried (LB g) = g .saved
 carried (LO org dest rs) = rs
 carried (LI org dest back rs) = []
 carried (LM base old new key) = []
-carried (LE unit) = []
+carried (LG i) = i .bytes ∷ []
+carried (LE unit images) = []
+
+-- the records that an LO takes out of its page
+unfoldable pub outs : Rec → List (List ℕ)
+outs (LB g) = []
+outs (LO org dest rs) = rs
+outs (LI org dest back rs) = []
+outs (LM base old new key) = []
+outs (LG i) = []
+outs (LE unit images) = []
 
 unfoldable pub size : Rec → ℕ
 size r = lengthOf (kindOf r) (length (carried r))
@@ -147,11 +175,13 @@ newKey new key = pick (eqb new 0) 0 key
 -- the body of a record with the log number n
 unfoldable pub body : (n : ℕ) → Rec → List ℕ
 body n (LB g) =
-    bytes4 (g .unit) ++ (g .type ∷ g .fill ∷ length (g .bases) ∷ length (g .leaves) ∷ (fields basePlaces (g .bases) ++ (fields leafPlaces (g .leaves) ++ (bytes2 (g .dest) ++ bytes2 0))))
+    bytes4 (g .unit) ++ (g .type ∷ g .fill ∷ length (g .bases) ∷ length (g .leaves)
+    ∷ (fields basePlaces (g .bases) ++ (fields leafPlaces (g .leaves) ++ (bytes2 (g .dest) ++ (bytes2 0 ++ joined (g .saved))))))
 body n (LO org dest rs) = bytes2 org ++ (bytes2 dest ++ (bytes2 (length rs) ++ (bytes2 0 ++ joined rs)))
 body n (LI org dest back rs) = bytes2 org ++ (bytes2 dest ++ (bytes2 (length rs) ++ (bytes2 0 ++ bytes4 (n - back))))
 body n (LM base old new key) = bytes2 base ++ (bytes2 old ++ (bytes2 new ++ (bytes2 0 ++ (bytes4 key ++ bytes4 (newKey new key)))))
-body n (LE unit) = bytes4 unit
+body n (LG i) = bytes2 (i .at) ++ (bytes2 0 ++ i .bytes)
+body n (LE unit images) = bytes4 unit
 
 -- the previous log number: 0 for LB, otherwise one less than its own
 unfoldable pub previous : (n : ℕ) → Rec → ℕ
@@ -159,7 +189,8 @@ previous n (LB g) = 0
 previous n (LO org dest rs) = n - 1
 previous n (LI org dest back rs) = n - 1
 previous n (LM base old new key) = n - 1
-previous n (LE unit) = n - 1
+previous n (LG i) = n - 1
+previous n (LE unit images) = n - 1
 
 unfoldable pub encode : (n : ℕ) → Rec → List ℕ
 encode n r = header (kindOf r) (size r) n (previous n r) ++ body n r
@@ -168,3 +199,8 @@ encode n r = header (kindOf r) (size r) n (previous n r) ++ body n r
 unfoldable pub encodeAll : (n : ℕ) → List Rec → List ℕ
 encodeAll n [] = []
 encodeAll n (r ∷ rs) = encode n r ++ encodeAll (n + 1) rs
+
+-- how long they are together
+unfoldable pub sizes : List Rec → ℕ
+sizes [] = 0
+sizes (r ∷ rs) = size r + sizes rs

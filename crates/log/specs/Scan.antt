@@ -10,10 +10,10 @@ use lib.Dec.{eqb}
 use Rattle.field.specs.Test.{both, pick, given, there}
 use Rattle.field.specs.Bytes.{allZero, le2, le4}
 use Rattle.page.specs.Page.{rowsOf}
-use Rattle.log.specs.Record.{typeAt, Rec, LB, LO, LI, LM, LE, check, begin, out, into, modify, end, lengthOf, carried, size}
+use Rattle.log.specs.Record.{typeAt, Begin, Image, Rec, LB, LO, LI, LM, LG, LE, begin, out, into, modify, image, end, lengthOf, outs, size, sizes}
 use Rattle.log.specs.Plan.{Step, takeOut, bringIn, point, close, plan}
-use Rattle.log.specs.Log.{Open, State, largest, largestMoved, beginOk, readBegin, readLog, atEnd, lastForced, first, readCheck}
-use Rattle.log.specs.Stand.{stands, standsIn, standsModify, standsOut, standsBegin}
+use Rattle.log.specs.Log.{Open, State, largest, largestMoved, beginOk, savesAt, readBegin, readImage, readLog, atEnd, lastForced, first, readCheck}
+use Rattle.log.specs.Stand.{stands, standsIn, standsModify, standsOut, standsBegin, standsImage, standsLast}
 use Rattle.field.specs.declared.LogNo.{LogNo}
 use Rattle.field.specs.declared.UnitNo.{UnitNo}
 use Rattle.log.specs.declared.scan.Walk.{Walk}
@@ -30,15 +30,10 @@ unitNo n = record { 0 = n }
 
 -- ---- a state by numbers
 
--- the bytes of records, together
-unfoldable pub bytesOf : List Rec → ℕ
-bytesOf [] = 0
-bytesOf (r ∷ rs) = size r + bytesOf rs
-
 -- the bytes of the latest record: LB where the unit has none since
-unfoldable pub latest : List Rec → ℕ
-latest [] = lengthOf begin 0
-latest (r ∷ did) = size r
+unfoldable pub latest : Begin → List Rec → ℕ
+latest g [] = size (LB g)
+latest g (r ∷ did) = size r
 
 -- the key of an LM, 0 of another record
 unfoldable pub keyIn : Rec → ℕ
@@ -46,7 +41,8 @@ keyIn (LB g) = 0
 keyIn (LO org dest rs) = 0
 keyIn (LI org dest back rs) = 0
 keyIn (LM base old new key) = key
-keyIn (LE unit) = 0
+keyIn (LG i) = 0
+keyIn (LE unit images) = 0
 
 -- the numbers of a state: where its open unit began and how many of its steps are done, where the latest record stands, how many records it
 -- and the unit's first carry, the key of the LM before, the largest key moved
@@ -60,12 +56,12 @@ shown s =
       known = there (s .lk);
       lk = given (s .lk) 0 (λ k. k);
       opened = there (s .opened);
-      begin = given (s .opened) 0 (λ o. s .at - (lengthOf begin 0 + bytesOf (o .did)));
+      begin = given (s .opened) 0 (λ o. s .at - (size (LB (o .start)) + sizes (o .did)));
       done = given (s .opened) 0 (λ o. length (o .did));
-      last = given (s .opened) 0 (λ o. s .at - latest (o .did));
-      rows = given (s .opened) 0 (λ o. length (carried (getD (o .did) 0 (LE 0))));
-      first = given (s .opened) 0 (λ o. length (carried (getD (o .did) (length (o .did) - 1) (LE 0))));
-      key = given (s .opened) 0 (λ o. keyIn (getD (o .did) 0 (LE 0)));
+      last = given (s .opened) 0 (λ o. s .at - latest (o .start) (o .did));
+      rows = given (s .opened) 0 (λ o. length (outs (getD (o .did) 0 (LE 0 []))));
+      first = given (s .opened) 0 (λ o. length (outs (getD (o .did) (length (o .did) - 1) (LE 0 []))));
+      key = given (s .opened) 0 (λ o. keyIn (getD (o .did) 0 (LE 0 [])));
       moved = given (s .opened) 0 (λ o. largestMoved 0 (o .did));
     }
 
@@ -115,11 +111,11 @@ lost = shut false 0 0 0 false 0
 
 -- ---- one record more, by numbers
 
--- an LB
-unfoldable pub begun : Walk → Walk
-begun w = opens w (lengthOf begin 0) (w .unit .0 + 1) (w .at) 0 0 0 0 0
+-- an LB that carries k records
+unfoldable pub begun : Walk → (k : ℕ) → Walk
+begun w k = opens w (lengthOf begin k) (w .unit .0 + 1) (w .at) 0 0 0 0 0
 
--- an LO, LI or LM of so many bytes, records carried, with this key and this largest key moved
+-- an LO, LI, LM or LG of so many bytes, records taken out, with this key and this largest key moved
 unfoldable pub went : Walk → (long rows key moved : ℕ) → Walk
 went w long rows key moved = opens w long (w .unit .0) (w .begin) (w .done + 1) rows (pick (eqb (w .done) 0) rows (w .first)) key moved
 
@@ -136,22 +132,45 @@ stepped w m t (takeOut org dest) =
 stepped w m t (bringIn org dest back) =
     pick (standsIn (w .number .0 + 1) org dest back (pick (eqb back 1) (w .rows) (w .first)) m) (went w (lengthOf into 0) 0 0 (w .moved)) lost
 stepped w m t (point base old new other) = pick (standsModify (w .number .0 + 1) base old new m) (went w (lengthOf modify 0) 0 (le4 m 20) (w .moved)) lost
-stepped w m t (close unit) = pick (stands (w .number .0 + 1) (LE unit) m) (ended w t) lost
+stepped w m t (close unit) = pick (stands (w .number .0 + 1) (LE unit []) m) (ended w t) lost
+
+-- the images of k LGs that stand one behind the other at the front of l
+unfoldable pub imagesIn : (k : ℕ) → (l : List ℕ) → List Image
+imagesIn zero l = []
+imagesIn (suc k) l = readImage l ∷ imagesIn k (drop (lengthOf image 1) l)
+
+-- the images so far of the put or delete that is open in the log l
+unfoldable pub imagesOn : (l : List ℕ) → Walk → List Image
+imagesOn l w = imagesIn (w .done) (drop (lengthOf begin 1) (drop (w .begin) l))
+
+-- the record of a put or delete with these images, read off the log's bytes m from there on
+unfoldable pub saved : Walk → (m : List ℕ) → (is : List Image) → Walk
+saved w m is =
+    pick (eqb (getD m 1 0) (image .sign)) (pick (standsImage (w .number .0 + 1) is m) (went w (lengthOf image 1) 0 0 (w .moved)) lost)
+    (pick (standsLast (w .number .0 + 1) (w .unit .0) is m) (ended w false) lost)
 
 -- the next record of the log l
 unfoldable pub turned : (l : List ℕ) → Walk → Walk
 turned l w =
     let m : List ℕ = drop (w .at) l in
     let b : List ℕ = drop (w .begin) l in
-    pick (w .opened) (stepped w m (eqb (getD b typeAt 0) 1) (getD (plan (readBegin (w .unit .0) b)) (w .done) (close (w .unit .0))))
-    (pick (standsBegin (w .number .0 + 1) (w .unit .0 + 1) m) (begun w) lost)
+    pick (w .opened)
+    (pick (savesAt b) (saved w m (imagesOn l w)) (stepped w m (eqb (getD b typeAt 0) 1) (getD (plan (readBegin (w .unit .0) b)) (w .done) (close (w .unit .0)))))
+    (pick (standsBegin (w .number .0 + 1) (w .unit .0 + 1) m) (begun w (pick (savesAt m) 1 0)) lost)
+
+-- what is known of the put or delete that is open in the log l: its images stand one behind the other, from its begin record to the walk's end
+pub record Saving (l : List ℕ) (w : Walk) : Type 0 where
+  pub inside : w .at ≤ length l
+  pub small : length l < 18446744073709551616
+  pub laid : w .at ≡ w .begin + lengthOf begin 1 + lengthOf image 1 * w .done
 
 -- what a turn needs of the numbers
 pub record Ready (l : List ℕ) (w : Walk) : Type 0 where
   pub inside : w .at ≤ length l
   pub steps : w .done ≤ w .at
-  pub room : w .opened ≡ true → w .begin + 44 ≤ length l
+  pub room : w .opened ≡ true → w .begin + begin .fixed ≤ length l
   pub start : w .opened ≡ true → beginOk (readBegin (w .unit .0) (drop (w .begin) l)) ≡ true
+  pub saving : w .opened ≡ true → savesAt (drop (w .begin) l) ≡ true → w .at ≡ w .begin + lengthOf begin 1 + lengthOf image 1 * w .done
 
 -- the check record
 unfoldable pub topped : (l : List ℕ) → Walk

@@ -1,5 +1,6 @@
 -- The tests of one record, as one Bool each: what `readRec` asks of the record that must come next. Assumes nothing.
-use Prim.Native.Nat.{ℕ, _+_, _-_, _*_}
+use Prim.Native.Nat.{ℕ, _+_, _-_, _*_, _≤_}
+use mathlib.Core.Path.{_≡_}
 use mathlib.Core.Bool.{Bool, true, false}
 use mathlib.Core.List.{List, [], _∷_}
 use mathlib.Core.Option.{Option, some, none}
@@ -8,9 +9,9 @@ use lib.Dec.{leb}
 use Rattle.field.specs.Test.{both, all, given}
 use Rattle.field.specs.Bytes.{part, allZero, starts, le2, le4, most4}
 use Rattle.page.specs.Page.{rowsOf, ascendRecords}
-use Rattle.log.specs.Record.{Begin, Rec, LB, LO, LM, into, baseCountAt, leafCountAt, basesAt, leavesAt, destAt, zeroAt, lengthOf, size, encode}
+use Rattle.log.specs.Record.{Begin, Image, Rec, LB, LO, LM, LG, LE, begin, into, baseCountAt, leafCountAt, basesAt, leavesAt, destAt, zeroAt, lengthOf, size, encode}
 use Rattle.log.specs.Write.{inBytes}
-use Rattle.log.specs.Log.{readBegin, beginOk}
+use Rattle.log.specs.Log.{savesAt, readBegin, beginOk, readImage, follows, allBear}
 
 -- the record with the log number n stands at the front of l, all of it
 unfoldable pub stands : (n : ℕ) → Rec → (l : List ℕ) → Bool
@@ -34,6 +35,19 @@ standsOut n org dest l =
 -- the same of an LB of this unit
 unfoldable pub standsBegin : (n unit : ℕ) → (l : List ℕ) → Bool
 standsBegin n u l = let g : Begin = readBegin u l in both (beginOk g) (stands n (LB g) l)
+
+-- the same of an LG whose image may follow these
+unfoldable pub standsImage : (n : ℕ) (is : List Image) → (l : List ℕ) → Bool
+standsImage n is l = both (follows is (readImage l)) (stands n (LG (readImage l)) l)
+
+-- the same of the LE of a put or delete with these images
+unfoldable pub standsLast : (n unit : ℕ) (is : List Image) → (l : List ℕ) → Bool
+standsLast n u is l = both (both (leb 1 (length is)) (allBear n is)) (stands n (LE u is) l)
+
+-- the bytes have room for the begin record at their front
+pub record Whole (l : List ℕ) : Type 0 where
+  pub fields : begin .fixed ≤ length l
+  pub record-too : savesAt l ≡ true → lengthOf begin 1 ≤ length l
 
 -- the fields that a begin record leaves unused are zero: behind its bases, behind its leaves, and its last
 unfoldable pub spareZero : (l : List ℕ) → Bool

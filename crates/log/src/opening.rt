@@ -1,13 +1,17 @@
 // Whether a begin record keeps the rules of its type. Each function is lent the log's bytes from the record on.
 ghost use mathlib.Core.Path.{_≡_};
+ghost use mathlib.Core.Bool.{true};
+ghost use mathlib.Core.List.{[], _∷_};
 ghost use Prim.Native.Nat.{_+_, _-_, _*_, _≤_, _<_};
 ghost use lib.ListN.{length, drop, getD};
 ghost use Rattle.field.specs.Bytes.{part, allZero};
-ghost use Rattle.log.specs.Record.{begin, baseCountAt, leafCountAt};
-ghost use Rattle.log.specs.Stand.{spareZero};
-ghost use Rattle.log.specs.Log.{within, onBases, onLeaves, listed, differ, compactOk, swapOk, moveOk, typeOk, beginOk, readFields, readBegin};
+ghost use Rattle.log.specs.Record.{begin, typeAt, baseCountAt, leafCountAt};
+ghost use Rattle.log.specs.Stand.{Whole, spareZero};
+ghost use Rattle.log.specs.Log.{within, onBases, onLeaves, listed, differ, compactOk, swapOk, moveOk, carriesOk, saveOk, typeOk, beginOk, savesAt, readFields, readBegin};
+use crate::kind;
 use field::PageNo;
 use page::bounds;
+use page::form;
 
 // Where the fields of a begin record stand: type, fill, the two counts, base pages, leaf pages, destination, zero.
 pub const TYPE_AT: usize = 16;
@@ -25,6 +29,9 @@ pub const LEAVES_AT: usize = 24;
 pub const DEST_AT: usize = 40;
 
 pub const ZERO_AT: usize = 42;
+
+// Where the value of a carried record stands, behind its mark and its key.
+const VALUE_AT: usize = 50;
 
 // The byte at an offset, as a count.
 pub fn byte_at(m: &[u8], i: usize) -> usize
@@ -192,9 +199,54 @@ fn move_ok(m: &[u8]) -> bool
     !listed(m, dest, LEAVES_AT, 1)
 }
 
+// Whether the begin record is a put's or a delete's.
+pub fn saves(m: &[u8]) -> bool
+    requires { ⌜ begin .fixed ≤ length (now m) ⌝ }
+    ensures { λ r. ⌜ r ≡ savesAt (now (m .entry)) ⌝ }
+{
+    4 <= byte_at(m, TYPE_AT)
+}
+
+// Whether the record that a put or delete carries bears its mark; that of a delete has no value.
+fn carries_ok(m: &[u8]) -> bool
+    requires { ⌜ Whole (now m) × (savesAt (now m) ≡ true) ⌝ }
+    ensures { λ r. ⌜ r ≡ carriesOk (getD (now (m .entry)) typeAt 0) (part (begin .fixed) (begin .each) (now (m .entry)) ∷ []) ⌝ }
+{
+    if !form::records_ascend(m, kind::LB_LONG, 1) {
+        return false;
+    }
+    if byte_at(m, TYPE_AT) != 5 {
+        return true;
+    }
+    field::zeros(&m[VALUE_AT..kind::LB_LONG + 16])
+}
+
+// Whether a put or delete lists nothing.
+fn save_ok(m: &[u8]) -> bool
+    requires { ⌜ Whole (now m) × (savesAt (now m) ≡ true) ⌝ }
+    ensures { λ r. ⌜ r ≡ saveOk (readBegin 0 (now (m .entry))) ⌝ }
+{
+    if 5 < byte_at(m, TYPE_AT) {
+        return false;
+    }
+    if byte_at(m, BASE_COUNT_AT) != 0 {
+        return false;
+    }
+    if byte_at(m, LEAF_COUNT_AT) != 0 {
+        return false;
+    }
+    if byte_at(m, FILL_AT) != 0 {
+        return false;
+    }
+    if field::get2(m, DEST_AT) != 0 {
+        return false;
+    }
+    carries_ok(m)
+}
+
 // Whether the rules of the record's type hold.
 fn type_ok(m: &[u8]) -> bool
-    requires { ⌜ begin .fixed ≤ length (now m) ⌝ }
+    requires { ⌜ Whole (now m) ⌝ }
     ensures { λ r. ⌜ r ≡ typeOk (readBegin 0 (now (m .entry))) ⌝ }
 {
     let kind = byte_at(m, TYPE_AT);
@@ -207,12 +259,15 @@ fn type_ok(m: &[u8]) -> bool
     if kind == 3 {
         return move_ok(m);
     }
-    false
+    if kind == 0 {
+        return false;
+    }
+    save_ok(m)
 }
 
 // Whether a begin record keeps all rules but those of its header, its unit number and its unused fields.
 pub fn begin_ok(m: &[u8]) -> bool
-    requires { ⌜ begin .fixed ≤ length (now m) ⌝ }
+    requires { ⌜ Whole (now m) ⌝ }
     ensures { λ r. ⌜ r ≡ beginOk (readBegin 0 (now (m .entry))) ⌝ }
 {
     let bases = byte_at(m, BASE_COUNT_AT);

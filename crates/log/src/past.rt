@@ -8,7 +8,7 @@ ghost use lib.Dec.{eqb};
 ghost use Rattle.field.specs.Test.{pick};
 ghost use Rattle.field.specs.Bytes.{le2, le4};
 ghost use Rattle.page.specs.Page.{rowsOf};
-ghost use Rattle.log.specs.Record.{begin, out, into, modify, end, lengthOf};
+ghost use Rattle.log.specs.Record.{begin, out, into, modify, image, end, lengthOf};
 ghost use Rattle.log.specs.Log.{largest};
 ghost use Rattle.log.specs.Scan.{begun, went, ended, turned, Ready};
 ghost use Rattle.log.specs.Carries.{Carries};
@@ -19,14 +19,14 @@ use crate::scan::Walk;
 use field::LogNo;
 use field::UnitNo;
 
-// After an LB.
-pub fn begun(w: Walk) -> Walk
-    requires { ⌜ (w .number .0 < 4294967295) × (w .unit .0 < 4294967295) × (w .at + begin .fixed < 18446744073709551616) ⌝ }
-    ensures { λ r. ⌜ r ≡ begun w ⌝ }
+// After an LB that carries `rows` records.
+pub fn begun(w: Walk, rows: u16) -> Walk
+    requires { ⌜ (rows ≤ 1) × (w .number .0 < 4294967295) × (w .unit .0 < 4294967295) × (w .at + lengthOf begin rows < 18446744073709551616) ⌝ }
+    ensures { λ r. ⌜ r ≡ begun w rows ⌝ }
 {
     Walk {
         ok: true,
-        at: w.at + kind::size_of(kind::LB, 0),
+        at: w.at + kind::size_of(kind::LB, rows),
         number: LogNo(w.number.0 + 1),
         unit: UnitNo(w.unit.0 + 1),
         known: w.known,
@@ -52,7 +52,7 @@ fn first_rows(done: usize, rows: u16, first: u16) -> u16
     first
 }
 
-// After an LO, LI or LM of so many bytes.
+// After an LO, LI, LM or LG of so many bytes.
 fn went(w: Walk, long: usize, rows: u16, key: u32, moved: u32) -> Walk
     requires { ⌜ (w .number .0 < 4294967295) × (w .at + long < 18446744073709551616) × (w .done < w .at + long) ⌝ }
     ensures { λ r. ⌜ r ≡ went w long rows key moved ⌝ }
@@ -101,6 +101,14 @@ pub fn pointed(m: &[u8], w: Walk) -> Walk
 {
     let key = field::get4(m, 20);
     went(w, kind::size_of(kind::LM, 0), 0, key, w.moved)
+}
+
+// After an LG.
+pub fn imaged(w: Walk) -> Walk
+    requires { ⌜ (w .number .0 < 4294967295) × (w .at + lengthOf image 1 < 18446744073709551616) × (w .done ≤ w .at) ⌝ }
+    ensures { λ r. ⌜ r ≡ went w (lengthOf image 1) 0 0 (w .moved) ⌝ }
+{
+    went(w, kind::size_of(kind::LG, 1), 0, 0, w.moved)
 }
 
 // LK after a unit has ended: whether it is there.
@@ -164,8 +172,11 @@ pub fn past(l: &[u8], w: Walk) -> Walk
     if sign == kind::sign(kind::LM) {
         return pointed(&l[at..], w);
     }
+    if sign == kind::sign(kind::LG) {
+        return imaged(w);
+    }
     if sign == kind::sign(kind::LB) {
-        return begun(w);
+        return begun(w, reading::carried(&l[at..]));
     }
     ended(w, l[begin + opening::TYPE_AT] == 1)
 }

@@ -2,22 +2,25 @@
 // longest, and these are compared.
 ghost use mathlib.Core.Path.{_≡_};
 ghost use mathlib.Core.Bool.{true};
+ghost use mathlib.Core.List.{List, []};
 ghost use Prim.Native.Nat.{_+_, _-_, _*_, _%_, _≤_, _<_};
 ghost use lib.ListN.{length, take, drop};
 ghost use lib.Dec.{leb};
 ghost use Rattle.field.specs.Test.{pick};
 ghost use Rattle.field.specs.Bytes.{starts};
 ghost use Rattle.page.specs.Page.{rowsOf, ascend};
-ghost use Rattle.log.specs.Log.{largest};
-ghost use Rattle.log.specs.Record.{check, LE, encodeCheck};
+ghost use Rattle.log.specs.Log.{largest, past, allBear, savesAt};
+ghost use Rattle.log.specs.Record.{check, begin, image, lengthOf, Image, LE, encodeCheck};
 ghost use Rattle.log.specs.Write.{checkOf};
-ghost use Rattle.log.specs.Stand.{stands, standsIn, standsModify, standsOut, standsBegin};
+ghost use Rattle.log.specs.Scan.{imagesIn};
+ghost use Rattle.log.specs.Stand.{stands, standsIn, standsModify, standsOut, standsBegin, standsImage};
 use crate::kind;
 use crate::opening;
 use crate::writing;
 use field::LogNo;
 use field::PageNo;
 use field::UnitNo;
+use page::bounds;
 use page::form;
 
 // Whether the first n bytes of b stand in l from the offset at. A record's length is a number of words of four bytes, and so is n.
@@ -39,7 +42,7 @@ fn same_at(l: &[u8], at: usize, b: &[u8], n: usize) -> bool
 // Whether the LE of this unit stands there, with the log number n.
 pub fn is_end(l: &[u8], at: usize, n: LogNo, unit: UnitNo) -> bool
     requires { ⌜ (at ≤ length (now l)) × (1 ≤ n .0) ⌝ }
-    ensures { λ r. ⌜ r ≡ stands (n .0) (LE (unit .0)) (drop at (now (l .entry))) ⌝ }
+    ensures { λ r. ⌜ r ≡ stands (n .0) (LE (unit .0) []) (drop at (now (l .entry))) ⌝ }
 {
     let long = kind::size_of(kind::LE, 0);
     if l.len() - at < long {
@@ -79,11 +82,26 @@ pub fn is_in(l: &[u8], at: usize, n: LogNo, org: PageNo, dest: PageNo, back: u32
     same_at(l, at, &b, long)
 }
 
+// How many records the begin record at the front of m carries.
+pub fn carried(m: &[u8]) -> u16
+    requires { ⌜ begin .fixed ≤ length (now m) ⌝ }
+    ensures { λ r. ⌜ r ≡ pick (savesAt (now (m .entry))) 1 0 ⌝ }
+{
+    if opening::saves(m) {
+        return 1;
+    }
+    0
+}
+
 // Whether an LB of this unit stands at the front of m. Of its bytes those are compared that an LE has too: header and unit number.
 pub fn is_begin(m: &[u8], n: LogNo, unit: UnitNo) -> bool
     ensures { λ r. ⌜ r ≡ standsBegin (n .0) (unit .0) (now (m .entry)) ⌝ }
 {
     if m.len() < kind::size_of(kind::LB, 0) {
+        return false;
+    }
+    let rows = carried(m);
+    if m.len() < kind::size_of(kind::LB, rows) {
         return false;
     }
     if !opening::begin_ok(m) {
@@ -93,7 +111,7 @@ pub fn is_begin(m: &[u8], n: LogNo, unit: UnitNo) -> bool
         return false;
     }
     let mut b = [0u8; kind::LM_LONG];
-    writing::put_unit(&mut b, 0, kind::LB, n, LogNo(0), unit);
+    writing::put_unit(&mut b, 0, kind::LB, rows, n, LogNo(0), unit);
     same_at(m, 0, &b, kind::size_of(kind::LE, 0))
 }
 
@@ -140,6 +158,49 @@ pub fn is_out(m: &[u8], n: LogNo, org: PageNo, dest: PageNo) -> bool
     let mut b = [0u8; kind::LM_LONG];
     writing::put_paged(&mut b, 0, kind::LO, k, n, org, dest, k);
     same_at(m, 0, &b, fixed)
+}
+
+// Whether an LG stands at the front of m whose page is not below `least`, its image in the form of that page.
+pub fn is_image(m: &[u8], n: LogNo, least: usize) -> bool
+    requires { ⌜ 1 ≤ n .0 ⌝ }
+    ensures { λ r. ⌜ ((is : List Image) → past 0 is ≡ least → r ≡ standsImage (n .0) is (now (m .entry))) ⌝ }
+{
+    let long = kind::size_of(kind::LG, 1);
+    if m.len() < long {
+        return false;
+    }
+    let p = field::get2(m, 12);
+    if (p as usize) < least {
+        return false;
+    }
+    if bounds::LAST_LEAF < p {
+        return false;
+    }
+    let from = kind::size_of(kind::LG, 0);
+    if !form::formed(p as usize, &m[from..long]) {
+        return false;
+    }
+    let mut b = [0u8; kind::LM_LONG];
+    writing::put_image_head(&mut b, 0, n, PageNo(p));
+    same_at(m, 0, &b, from)
+}
+
+// Whether the images of k LGs that stand one behind the other at the front of m bear the number n.
+pub fn all_bear(m: &[u8], k: usize, n: LogNo) -> bool
+    requires { ⌜ lengthOf image 1 * k ≤ length (now m) ⌝ }
+    ensures { λ r. ⌜ r ≡ allBear (n .0) (imagesIn k (now (m .entry))) ⌝ }
+{
+    let long = kind::size_of(kind::LG, 1);
+    let mut at = 0;
+    let mut left = k;
+    while 0 < left {
+        if field::get4(m, at + kind::LG_LONG + 4) != n.0 {
+            return false;
+        }
+        at += long;
+        left -= 1;
+    }
+    true
 }
 
 // Whether the check record of these numbers stands at the front of l.

@@ -5,12 +5,12 @@ ghost use Prim.Native.Nat.{_+_, _-_, _*_, _≤_, _<_};
 ghost use lib.ListN.{length, drop, getD};
 ghost use lib.Dec.{eqb};
 ghost use Rattle.field.specs.Test.{pick};
-ghost use Rattle.log.specs.Record.{begin, typeAt};
+ghost use Rattle.log.specs.Record.{begin, image, typeAt, lengthOf};
 ghost use Rattle.log.specs.Plan.{takeOut, bringIn, point, close, plan};
-ghost use Rattle.log.specs.Log.{beginOk, readBegin};
-ghost use Rattle.log.specs.Stand.{standsBegin};
+ghost use Rattle.log.specs.Log.{past, beginOk, savesAt, readBegin};
+ghost use Rattle.log.specs.Stand.{standsBegin, standsImage, standsLast};
 ghost use Rattle.log.specs.Steps.{stepOf};
-ghost use Rattle.log.specs.Scan.{lost, begun, stepped, turned, Ready, topped, noted, live, finished, scanned};
+ghost use Rattle.log.specs.Scan.{lost, begun, went, ended, stepped, imagesOn, saved, Saving, turned, Ready, topped, noted, live, finished, scanned};
 use crate::kind;
 use crate::opening;
 use crate::past;
@@ -81,7 +81,7 @@ fn lost() -> Walk
 // An LB at the front of m.
 fn begin_turn(m: &[u8], w: Walk) -> Walk
     requires { ⌜ (w .number .0 < 4294967295) × (w .at + length (now m) < 18446744073709551616) ⌝ }
-    ensures { λ r. ⌜ r ≡ pick (standsBegin (w .number .0 + 1) (w .unit .0 + 1) (now (m .entry))) (begun w) lost ⌝ }
+    ensures { λ r. ⌜ r ≡ pick (standsBegin (w .number .0 + 1) (w .unit .0 + 1) (now (m .entry))) (begun w (pick (savesAt (now (m .entry))) 1 0)) lost ⌝ }
 {
     if w.unit.0 == 4294967295 {
         return lost();
@@ -89,7 +89,7 @@ fn begin_turn(m: &[u8], w: Walk) -> Walk
     if !reading::is_begin(m, LogNo(w.number.0 + 1), UnitNo(w.unit.0 + 1)) {
         return lost();
     }
-    past::begun(w)
+    past::begun(w, reading::carried(m))
 }
 
 // The LO of a step at the front of m.
@@ -158,13 +158,71 @@ fn step_turn(m: &[u8], w: Walk, compact: bool, x: Planned) -> Walk
 // The step i of the unit whose begin record stands at the front of m, where it is known whether that is a compact. It has one caller, and
 // so is compiled in its place in the pass, where `steps::step_at` would be a call at each record.
 fn step_of(m: &[u8], compact: bool, unit: UnitNo, i: usize) -> Planned
-    requires { ⌜ (begin .fixed ≤ length (now m)) × (beginOk (readBegin (unit .0) (now m)) ≡ true) × (compact ≡ eqb (getD (now m) typeAt 0) 1) ⌝ }
+    requires { ⌜ (begin .fixed ≤ length (now m)) × (beginOk (readBegin (unit .0) (now m)) ≡ true) × (savesAt (now m) ≡ false) × (compact ≡ eqb (getD (now m) typeAt 0) 1) ⌝ }
     ensures { λ r. ⌜ stepOf r ≡ getD (plan (readBegin (unit .0) (now (m .entry)))) i (close (unit .0)) ⌝ }
 {
     if compact {
         return steps::compact_step(m, unit, i);
     }
     steps::other_step(m, unit, i)
+}
+
+// The least page whose image may follow those of the put or delete that is open: one above the last one's, 0 where there is none.
+fn least_page(l: &[u8], w: Walk) -> usize
+    requires { ⌜ Saving (now l) w ⌝ }
+    ensures { λ r. ⌜ r ≡ past 0 (imagesOn (now (l .entry)) w) ⌝ }
+{
+    if w.done == 0 {
+        return 0;
+    }
+    field::get2(l, w.at - kind::size_of(kind::LG, 1) + 12) as usize + 1
+}
+
+// The LG of a put or delete at the log's end.
+fn image_turn(l: &[u8], w: Walk) -> Walk
+    requires { ⌜ Saving (now l) w × (w .number .0 < 4294967295) ⌝ }
+    ensures { λ r. ⌜ r ≡ pick (standsImage (w .number .0 + 1) (imagesOn (now (l .entry)) w) (drop (w .at) (now (l .entry)))) (went w (lengthOf image 1) 0 0 (w .moved)) lost ⌝ }
+{
+    let at = w.at;
+    let least = least_page(l, w);
+    if !reading::is_image(&l[at..], LogNo(w.number.0 + 1), least) {
+        return lost();
+    }
+    past::imaged(w)
+}
+
+// The LE of a put or delete at the log's end.
+fn last_turn(l: &[u8], w: Walk) -> Walk
+    requires { ⌜ Saving (now l) w × (w .number .0 < 4294967295) ⌝ }
+    ensures { λ r. ⌜ r ≡ pick (standsLast (w .number .0 + 1) (w .unit .0) (imagesOn (now (l .entry)) w) (drop (w .at) (now (l .entry)))) (ended w false) lost ⌝ }
+{
+    let at = w.at;
+    let from = w.begin + kind::size_of(kind::LB, 1);
+    if w.done == 0 {
+        return lost();
+    }
+    if !reading::all_bear(&l[from..], w.done, LogNo(w.number.0 + 1)) {
+        return lost();
+    }
+    if !reading::is_end(l, at, LogNo(w.number.0 + 1), w.unit) {
+        return lost();
+    }
+    past::ended(w, false)
+}
+
+// The next record of a put or delete.
+fn save_turn(l: &[u8], w: Walk) -> Walk
+    requires { ⌜ Saving (now l) w × (w .number .0 < 4294967295) ⌝ }
+    ensures { λ r. ⌜ r ≡ saved w (drop (w .at) (now (l .entry))) (imagesOn (now (l .entry)) w) ⌝ }
+{
+    let at = w.at;
+    if l.len() - at < kind::size_of(kind::LE, 0) {
+        return lost();
+    }
+    if l[at + 1] == kind::sign(kind::LG) {
+        return image_turn(l, w);
+    }
+    last_turn(l, w)
 }
 
 // The next record of the log.
@@ -179,6 +237,9 @@ fn turn(l: &[u8], w: Walk) -> Walk
     }
     if !w.opened {
         return begin_turn(&l[at..], w);
+    }
+    if opening::saves(&l[begin..]) {
+        return save_turn(l, w);
     }
     let compact = l[begin + opening::TYPE_AT] == 1;
     let x = step_of(&l[begin..], compact, w.unit, w.done);

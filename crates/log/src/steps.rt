@@ -9,7 +9,7 @@ ghost use Rattle.field.specs.Test.{pick};
 ghost use Rattle.field.specs.Bytes.{le2};
 ghost use Rattle.log.specs.Record.{begin, typeAt, baseCountAt, leafCountAt, basesAt, leavesAt, destAt};
 ghost use Rattle.log.specs.Plan.{takeOut, bringIn, close, compactPlan, swapPlan, movePlan, plan};
-ghost use Rattle.log.specs.Log.{beginOk, readFields, readBegin};
+ghost use Rattle.log.specs.Log.{beginOk, readFields, savesAt, readBegin};
 ghost use Rattle.log.specs.Steps.{stepOf};
 use crate::opening;
 use field::PageNo;
@@ -177,7 +177,7 @@ fn second_base(m: &[u8]) -> PageNo
 
 // The step i of a swap or a move.
 pub fn other_step(m: &[u8], unit: UnitNo, i: usize) -> Planned
-    requires { ⌜ (begin .fixed ≤ length (now m)) × (beginOk (readBegin (unit .0) (now m)) ≡ true) × (eqb (getD (now m) typeAt 0) 1 ≡ false) ⌝ }
+    requires { ⌜ (begin .fixed ≤ length (now m)) × (beginOk (readBegin (unit .0) (now m)) ≡ true) × (savesAt (now m) ≡ false) × (eqb (getD (now m) typeAt 0) 1 ≡ false) ⌝ }
     ensures { λ r. ⌜ stepOf r ≡ getD (plan (readBegin (unit .0) (now (m .entry)))) i (close (unit .0)) ⌝ }
 {
     let base = PageNo(field::get2(m, opening::BASES_AT));
@@ -197,7 +197,7 @@ pub fn other_step(m: &[u8], unit: UnitNo, i: usize) -> Planned
 
 // The step i of the unit whose begin record stands at the front of m; past its end, the end.
 pub fn step_at(m: &[u8], unit: UnitNo, i: usize) -> Planned
-    requires { ⌜ (begin .fixed ≤ length (now m)) × (beginOk (readBegin (unit .0) (now m)) ≡ true) ⌝ }
+    requires { ⌜ (begin .fixed ≤ length (now m)) × (beginOk (readBegin (unit .0) (now m)) ≡ true) × (savesAt (now m) ≡ false) ⌝ }
     ensures { λ r. ⌜ stepOf r ≡ getD (plan (readBegin (unit .0) (now (m .entry)))) i (close (unit .0)) ⌝ }
 {
     if opening::byte_at(m, opening::TYPE_AT) == 1 {
@@ -208,7 +208,7 @@ pub fn step_at(m: &[u8], unit: UnitNo, i: usize) -> Planned
 
 // How many steps a unit has after its LB: of k leaves, 3 k - 2 in place and 3 k + 1 otherwise; a swap 7, a move 4.
 pub fn step_count(m: &[u8], unit: UnitNo) -> usize
-    requires { ⌜ (begin .fixed ≤ length (now m)) × (beginOk (readBegin (unit .0) (now m)) ≡ true) ⌝ }
+    requires { ⌜ (begin .fixed ≤ length (now m)) × (beginOk (readBegin (unit .0) (now m)) ≡ true) × (savesAt (now m) ≡ false) ⌝ }
     ensures { λ r. ⌜ r ≡ length (plan (readBegin (unit .0) (now (m .entry)))) ⌝ }
 {
     let kind = opening::byte_at(m, opening::TYPE_AT);

@@ -6,9 +6,9 @@ ghost use lib.ListN.{length, getD};
 ghost use Rattle.field.specs.Test.{pick};
 ghost use Rattle.field.specs.Bytes.{put};
 ghost use Rattle.page.specs.Page.{rowsOf};
-ghost use Rattle.log.specs.Record.{letter, check, begin, out, into, modify, end, LB, LO, LM, LE, header, fields, newKey, encode, encodeCheck};
+ghost use Rattle.log.specs.Record.{letter, check, begin, out, into, modify, image, end, lengthOf, LB, LO, LM, LG, LE, header, fields, newKey, encode, encodeCheck};
 ghost use Rattle.log.specs.Table.{kindAt};
-ghost use Rattle.log.specs.Write.{unitHead, paged, inBytes, checkOf, beginOf};
+ghost use Rattle.log.specs.Write.{unitHead, paged, inBytes, checkOf, beginOf, saveOf, startOf, imageOf, imageHead};
 use crate::kind;
 use crate::opening;
 use field::LogNo;
@@ -17,7 +17,7 @@ use field::UnitNo;
 
 // The mark of the kind k.
 fn put_mark(s: &mut [u8], at: usize, k: usize)
-    requires { ⌜ (k < 6) × (at + 2 ≤ length (now s)) ⌝ }
+    requires { ⌜ (k < 7) × (at + 2 ≤ length (now s)) ⌝ }
     ensures { λ _. ⌜ now (s .exit) ≡ put at (letter ∷ kindAt k .sign ∷ []) (now (s .entry)) ⌝ }
 {
     let first = kind::lead(k);
@@ -28,7 +28,7 @@ fn put_mark(s: &mut [u8], at: usize, k: usize)
 
 // The header of a record of the kind k: mark, whole length, log number, previous log number.
 fn put_header(s: &mut [u8], at: usize, k: usize, long: u16, n: LogNo, prior: LogNo)
-    requires { ⌜ (k < 6) × (at + 12 ≤ length (now s)) ⌝ }
+    requires { ⌜ (k < 7) × (at + 12 ≤ length (now s)) ⌝ }
     ensures { λ _. ⌜ now (s .exit) ≡ put at (header (kindAt k) long (n .0) (prior .0)) (now (s .entry)) ⌝ }
 {
     put_mark(s, at, k);
@@ -37,12 +37,12 @@ fn put_header(s: &mut [u8], at: usize, k: usize, long: u16, n: LogNo, prior: Log
     field::put4(s, at + 8, prior.0);
 }
 
-// A header and a unit number: all of an LE, and the front of an LB.
-pub fn put_unit(s: &mut [u8], at: usize, k: usize, n: LogNo, prior: LogNo, unit: UnitNo)
-    requires { ⌜ (k < 6) × (at + end .fixed ≤ length (now s)) ⌝ }
-    ensures { λ _. ⌜ now (s .exit) ≡ put at (unitHead (kindAt k) (n .0) (prior .0) (unit .0)) (now (s .entry)) ⌝ }
+// A header and a unit number: all of an LE, and the front of an LB that carries `rows` records.
+pub fn put_unit(s: &mut [u8], at: usize, k: usize, rows: u16, n: LogNo, prior: LogNo, unit: UnitNo)
+    requires { ⌜ (k < 7) × (rows ≤ 15) × (at + end .fixed ≤ length (now s)) ⌝ }
+    ensures { λ _. ⌜ now (s .exit) ≡ put at (unitHead (kindAt k) rows (n .0) (prior .0) (unit .0)) (now (s .entry)) ⌝ }
 {
-    put_header(s, at, k, kind::length_of(k, 0), n, prior);
+    put_header(s, at, k, kind::length_of(k, rows), n, prior);
     field::put4(s, at + 12, unit.0);
 }
 
@@ -57,7 +57,7 @@ pub fn put_paged(
     b: PageNo,
     c: u16,
 )
-    requires { ⌜ (k < 6) × (rows ≤ 15) × (1 ≤ n .0) × (at + out .fixed ≤ length (now s)) ⌝ }
+    requires { ⌜ (k < 7) × (rows ≤ 15) × (1 ≤ n .0) × (at + out .fixed ≤ length (now s)) ⌝ }
     ensures { λ _. ⌜ now (s .exit) ≡ put at (paged (kindAt k) rows (n .0) (a .0) (b .0) c) (now (s .entry)) ⌝ }
 {
     put_header(s, at, k, kind::length_of(k, rows), n, LogNo(n.0 - 1));
@@ -117,9 +117,9 @@ pub fn put_modify(
 // An LE.
 pub fn put_end(s: &mut [u8], at: usize, n: LogNo, unit: UnitNo)
     requires { ⌜ (1 ≤ n .0) × (at + end .fixed ≤ length (now s)) ⌝ }
-    ensures { λ _. ⌜ now (s .exit) ≡ put at (encode (n .0) (LE (unit .0))) (now (s .entry)) ⌝ }
+    ensures { λ _. ⌜ now (s .exit) ≡ put at (encode (n .0) (LE (unit .0) [])) (now (s .entry)) ⌝ }
 {
-    put_unit(s, at, kind::LE, n, LogNo(n.0 - 1), unit);
+    put_unit(s, at, kind::LE, 0, n, LogNo(n.0 - 1), unit);
 }
 
 // An LO of the records rs, 16 bytes each.
@@ -186,6 +186,37 @@ fn put_fields(s: &mut [u8], at: usize, ps: &[u16], n: usize)
     }
 }
 
+// All of an LB but the record that it carries, of which there are `rows`.
+fn put_start(
+    s: &mut [u8],
+    at: usize,
+    rows: u16,
+    n: LogNo,
+    unit: UnitNo,
+    kind: u8,
+    fill: u8,
+    bases: &[u16],
+    leaves: &[u16],
+    dest: PageNo,
+)
+    requires { ⌜ (rows ≤ 15) × (length (now bases) ≤ 2) × (length (now leaves) ≤ 8) × (at + begin .fixed ≤ length (now s)) ⌝ }
+    ensures { λ _. ⌜ now (s .exit) ≡ put at (startOf rows (n .0) (unit .0) kind fill (now (bases .entry)) (now (leaves .entry)) (dest .0)) (now (s .entry)) ⌝ }
+{
+    put_unit(s, at, kind::LB, rows, n, LogNo(0), unit);
+    put_counts(
+        s,
+        at + opening::TYPE_AT,
+        kind,
+        fill,
+        bases.len() as u8,
+        leaves.len() as u8,
+    );
+    put_fields(s, at + opening::BASES_AT, bases, 2);
+    put_fields(s, at + opening::LEAVES_AT, leaves, 8);
+    field::put2(s, at + opening::DEST_AT, dest.0);
+    field::put2(s, at + opening::ZERO_AT, 0);
+}
+
 // An LB of these base pages and leaves.
 pub fn put_begin(
     s: &mut [u8],
@@ -199,19 +230,55 @@ pub fn put_begin(
     dest: PageNo,
 )
     requires { ⌜ (length (now bases) ≤ 2) × (length (now leaves) ≤ 8) × (at + begin .fixed ≤ length (now s)) ⌝ }
-    ensures { λ _. ⌜ now (s .exit) ≡ put at (encode (n .0) (LB (beginOf (unit .0) kind fill (now (bases .entry)) (now (leaves .entry)) (dest .0)))) (now (s .entry)) ⌝ }
+    ensures { λ _. ⌜ now (s .exit) ≡ put at (encode (n .0) (LB (beginOf (unit .0) kind fill (now (bases .entry)) (now (leaves .entry)) (dest .0) []))) (now (s .entry)) ⌝ }
 {
-    put_unit(s, at, kind::LB, n, LogNo(0), unit);
-    put_counts(
+    put_start(s, at, 0, n, unit, kind, fill, bases, leaves, dest);
+}
+
+// The LB of a put or delete with the record r: it lists nothing.
+pub fn put_save(s: &mut [u8], at: usize, n: LogNo, unit: UnitNo, kind: u8, r: &[u8])
+    requires { ⌜ (length (now r) ≡ begin .each) × (at + lengthOf begin 1 ≤ length (now s)) ⌝ }
+    ensures { λ _. ⌜ now (s .exit) ≡ put at (encode (n .0) (LB (saveOf (unit .0) kind (now (r .entry))))) (now (s .entry)) ⌝ }
+{
+    let bases = [0u16; 1];
+    let leaves = [0u16; 1];
+    put_start(
         s,
-        at + opening::TYPE_AT,
+        at,
+        1,
+        n,
+        unit,
         kind,
-        fill,
-        bases.len() as u8,
-        leaves.len() as u8,
+        0,
+        &bases[..0],
+        &leaves[..0],
+        PageNo(0),
     );
-    put_fields(s, at + opening::BASES_AT, bases, 2);
-    put_fields(s, at + opening::LEAVES_AT, leaves, 8);
-    field::put2(s, at + opening::DEST_AT, dest.0);
-    field::put2(s, at + opening::ZERO_AT, 0);
+    field::copy(s, at + kind::size_of(kind::LB, 0), r);
+}
+
+// All of an LG but its image: header, page, zero.
+pub fn put_image_head(s: &mut [u8], at: usize, n: LogNo, p: PageNo)
+    requires { ⌜ (1 ≤ n .0) × (at + image .fixed ≤ length (now s)) ⌝ }
+    ensures { λ _. ⌜ now (s .exit) ≡ put at (imageHead (n .0) (p .0)) (now (s .entry)) ⌝ }
+{
+    put_header(
+        s,
+        at,
+        kind::LG,
+        kind::length_of(kind::LG, 1),
+        n,
+        LogNo(n.0 - 1),
+    );
+    field::put2(s, at + 12, p.0);
+    field::put2(s, at + 14, 0);
+}
+
+// An LG of page p with this image.
+pub fn put_image(s: &mut [u8], at: usize, n: LogNo, p: PageNo, page: &[u8])
+    requires { ⌜ (1 ≤ n .0) × (length (now page) ≡ image .each) × (at + lengthOf image 1 ≤ length (now s)) ⌝ }
+    ensures { λ _. ⌜ now (s .exit) ≡ put at (encode (n .0) (LG (imageOf (p .0) (now (page .entry))))) (now (s .entry)) ⌝ }
+{
+    put_image_head(s, at, n, p);
+    field::copy(s, at + kind::size_of(kind::LG, 0), page);
 }

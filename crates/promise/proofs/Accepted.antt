@@ -12,10 +12,9 @@ use Rattle.field.specs.Bytes.{put, most4}
 use Rattle.field.proofs.Test.{both-intro, need-true, given-some}
 use Rattle.page.specs.Pages.{pages}
 use Rattle.page.proofs.Pages.{formed-pages}
-use Rattle.log.specs.Record.{Check, Begin, Rec, LB, size, encode}
+use Rattle.log.specs.Record.{Check, Begin, Rec, LB, size, encode, sizes}
 use Rattle.log.specs.Plan.{plan}
 use Rattle.log.specs.Log.{Open, after}
-use Rattle.log.proofs.State.{sizes}
 use Rattle.log.specs.Valid.{Good}
 use Rattle.log.proofs.Sound.{Waits, waits-open, sound-atEnd}
 use Rattle.unit.specs.Choice.{compactUnit, orderUnit}

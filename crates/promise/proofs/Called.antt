@@ -16,10 +16,10 @@ use Rattle.field.proofs.Test.{both-1, both-2, need-true, given-some, given-none
 use Rattle.field.proofs.Same.{same-eq}
 use Rattle.page.specs.Page.{number}
 use Rattle.page.specs.Pages.{page, pages}
-use Rattle.log.specs.Record.{Check, Begin, Rec, LB, encode}
+use Rattle.log.specs.Record.{Check, Begin, Rec, LB, encode, sizes}
 use Rattle.log.specs.Plan.{Step}
 use Rattle.log.specs.Log.{Open, State, after, lastForced}
-use Rattle.log.proofs.State.{sizes, at-atEnd, number-atEnd}
+use Rattle.log.proofs.State.{at-atEnd, number-atEnd}
 use Rattle.log.proofs.Plan.{Ending}
 use Rattle.log.specs.Valid.{Good}
 use Rattle.log.proofs.Sound.{Waits, Awaits, waits-open, sound-atEnd}

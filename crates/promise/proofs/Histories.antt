@@ -12,10 +12,10 @@ use Rattle.field.specs.Bytes.{Bytes, zeroes}
 use Rattle.page.specs.Page.{rowsOf}
 use Rattle.page.specs.Pages.{pages, allFormed}
 use Rattle.page.proofs.Pages.{formed-pages}
-use Rattle.log.specs.Record.{Check, Begin, Rec}
+use Rattle.log.specs.Record.{Check, Begin, Rec, sizes}
 use Rattle.log.specs.Plan.{close, plan}
 use Rattle.log.specs.Log.{Open, beginOk, readLog}
-use Rattle.log.proofs.State.{sizes, at-atEnd}
+use Rattle.log.proofs.State.{at-atEnd}
 use Rattle.log.specs.Valid.{Good}
 use Rattle.log.proofs.Sound.{Waits, waits-open, awaits-todo, sound-atEnd}
 use Rattle.log.proofs.Ends.{Ends, lastForced-facts, sizes-take-less}

@@ -10,9 +10,9 @@ use Rattle.field.specs.Bytes.{Bytes, put, zeroes}
 use Rattle.field.proofs.Test.{both-intro, bind-intro, when-true, there-some}
 use Rattle.field.proofs.Zero.{length-zeroes}
 use Rattle.field.proofs.Byte.{bytes-append, bytes-zeroes}
-use Rattle.log.specs.Record.{Check, Rec, size, encode}
+use Rattle.log.specs.Record.{Check, Rec, size, encode, sizes}
 use Rattle.log.specs.Log.{State, after, Log, readLog, encodeLog, lastForced}
-use Rattle.log.proofs.State.{sizes, at-atEnd, length-encodeLog, bytes-encodeLog}
+use Rattle.log.proofs.State.{at-atEnd, length-encodeLog, bytes-encodeLog}
 use Rattle.log.specs.Valid.{Fits, Good}
 use Rattle.log.proofs.Valid.{follows-sized, valid-sized, valid-narrow}
 use Rattle.log.proofs.Read.{readLog-facts}

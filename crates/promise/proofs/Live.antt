@@ -13,9 +13,9 @@ use borrow.Author.Tests.{eq-eqb}
 use Rattle.field.specs.Bytes.{put}
 use Rattle.field.proofs.Test.{both-intro}
 use Rattle.page.specs.Pages.{pages}
-use Rattle.log.specs.Record.{Check, Rec, size, encode, encodeCheck, encodeAll}
+use Rattle.log.specs.Record.{Check, Rec, size, encode, encodeCheck, encodeAll, sizes}
 use Rattle.log.specs.Log.{encodeLog}
-use Rattle.log.proofs.State.{sizes, at-atEnd}
+use Rattle.log.proofs.State.{at-atEnd}
 use Rattle.log.proofs.Record.{length-encodeCheck}
 use Rattle.log.specs.Valid.{Fits}
 use Rattle.tree.specs.Tree.{allRecords}

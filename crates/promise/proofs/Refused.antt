@@ -4,10 +4,10 @@ use Prim.Native.Nat.{ℕ}
 use mathlib.Core.Path.{_≡_, refl, ap, _∙_}
 use mathlib.Core.Bool.{false}
 use Rattle.store.specs.Calls.{Lent, lent, Left, refused, zeroed, pagesLength, threeSized, recover}
-use Rattle.store.proofs.Refusals.{Keeps, build-keeps, begin-compact-keeps, begin-order-keeps, step-keeps, flush-keeps, force-keeps}
+use Rattle.store.proofs.Refusals.{Keeps, build-keeps, begin-compact-keeps, begin-order-keeps, begin-put-keeps, begin-delete-keeps, step-keeps, flush-keeps, force-keeps}
 use Rattle.store.proofs.Refusals.{checkpoint-keeps, find-keeps, list-keeps, recover-sized, recover-unsized}
 use Rattle.field.specs.Bytes.{zeroes}
-use Rattle.promise.specs.Promise.{Call, toBeginCompact, toBeginOrder, toStep, toFlush, toForce, toCheckpoint, toFind, toList, does, Refusals}
+use Rattle.promise.specs.Promise.{Call, toBeginCompact, toBeginOrder, toBeginPut, toBeginDelete, toStep, toFlush, toForce, toCheckpoint, toFind, toList, does, Refusals}
 
 pub refused-now : (k r : ℕ) (d : Lent) → refused k r d .now ≡ d
 unfolding refused
@@ -24,6 +24,8 @@ call-now : (k : Call) (d : Lent) → (does k d .reply ≡ 0 → ⊥) → does k 
 unfolding does
 call-now (toBeginCompact fill) d = kept-now 0 d _ (begin-compact-keeps fill d)
 call-now toBeginOrder d = kept-now 0 d _ (begin-order-keeps d)
+call-now toBeginPut d = kept-now 0 d _ (begin-put-keeps d)
+call-now (toBeginDelete key) d = kept-now 0 d _ (begin-delete-keeps key d)
 call-now toStep d = kept-now 0 d _ (step-keeps d)
 call-now (toFlush p) d = kept-now 0 d _ (flush-keeps p d)
 call-now toForce d = kept-now 0 d _ (force-keeps d)

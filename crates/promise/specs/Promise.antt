@@ -5,16 +5,17 @@ use mathlib.Core.Path.{_≡_}
 use mathlib.Core.Bool.{Bool, true, false}
 use mathlib.Core.List.{List, [], _∷_, _++_}
 use mathlib.Core.Option.{some, none}
-use lib.ListN.{length, take}
+use lib.ListN.{length, take, getD}
 use lib.Dec.{eqb}
-use Rattle.field.specs.Test.{pick, there}
+use Rattle.field.specs.Test.{pick, given, there}
 use Rattle.field.specs.Bytes.{Bytes, zeroes}
-use Rattle.page.specs.Page.{rowsOf}
+use Rattle.page.specs.Page.{rowsOf, keyOf}
 use Rattle.page.specs.Pages.{page, pages, allFormed}
-use Rattle.log.specs.Record.{Check, Rec}
+use Rattle.log.specs.Record.{Check, Begin, saves, Rec, LB, LO, LI, LM, LG, LE}
 use Rattle.log.specs.Log.{Log, readLog, atEnd, lastForced}
 use Rattle.tree.specs.Tree.{wellFormed, allRecords}
-use Rattle.store.specs.Calls.{Lent, lent, Left, threeSized, pagesLength, logLength, newLog, build, recover, beginCompact, beginOrder, step, flush, force, checkpoint, find, list}
+use Rattle.saving.specs.Save.{withRecord, withoutKey}
+use Rattle.store.specs.Calls.{Lent, lent, Left, threeSized, pagesLength, logLength, newLog, build, recover, beginCompact, beginOrder, beginPut, beginDelete, step, flush, force, checkpoint, find, list}
 
 -- ---- calls
 
@@ -22,6 +23,8 @@ use Rattle.store.specs.Calls.{Lent, lent, Left, threeSized, pagesLength, logLen
 pub data Call : Type 0 where
   toBeginCompact : (fill : ℕ) → Call
   toBeginOrder : Call
+  toBeginPut : Call
+  toBeginDelete : (key : ℕ) → Call
   toStep : Call
   toFlush : (p : ℕ) → Call
   toForce : Call
@@ -33,6 +36,8 @@ pub data Call : Type 0 where
 unfoldable pub does : Call → Lent → Left
 does (toBeginCompact fill) d = beginCompact fill d
 does toBeginOrder d = beginOrder d
+does toBeginPut d = beginPut d
+does (toBeginDelete key) d = beginDelete key d
 does toStep d = step d
 does (toFlush p) d = flush p d
 does toForce d = force d
@@ -40,11 +45,12 @@ does (toCheckpoint clear) d = checkpoint clear d
 does (toFind key) d = find key d
 does (toList low high) d = list low high d
 
--- pages and log hold bytes
+-- pages, log and what else is lent hold bytes
 pub record InBytes (d : Lent) : Type 0 where
   pub work : Bytes (d .work)
   pub store : Bytes (d .store)
   pub log : Bytes (d .log)
+  pub bytes : Bytes (d .bytes)
 
 -- ---- cuts
 
@@ -61,6 +67,24 @@ pub record Cut (forced : ℕ) (d d′ : Lent) : Type 0 where
   pub enough : forced ≤ kept
   pub log : d′ .log ≡ take kept (d .log) ++ zeroes (logLength - kept)
 
+-- ---- the records that a log's begun puts and deletes make of others
+
+-- of one unit's begin record: a put has its record at its key, a delete has the key no more
+unfoldable pub savedOne : Begin → List (List ℕ) → List (List ℕ)
+savedOne g rs =
+    let r : List ℕ = getD (g .saved) 0 [] in
+    pick (eqb (g .type) 4) (withRecord r rs) (pick (eqb (g .type) 5) (withoutKey (keyOf r) rs) rs)
+
+-- of all begin records of a log, in order, whether their units have ended or not
+unfoldable pub savedBy : List Rec → List (List ℕ) → List (List ℕ)
+savedBy [] rs = rs
+savedBy (LB g ∷ l) rs = savedBy l (savedOne g rs)
+savedBy (LO org dest ls ∷ l) rs = savedBy l rs
+savedBy (LI org dest back ls ∷ l) rs = savedBy l rs
+savedBy (LM base old new key ∷ l) rs = savedBy l rs
+savedBy (LG i ∷ l) rs = savedBy l rs
+savedBy (LE unit images ∷ l) rs = savedBy l rs
+
 -- ---- histories
 
 -- the pages that stood when the log's check record was written, after a call: at an accepted checkpoint the work pages of that moment, else
@@ -68,6 +92,8 @@ pub record Cut (forced : ℕ) (d d′ : Lent) : Type 0 where
 unfoldable pub since : Call → (o : List ℕ) → Lent → List ℕ
 since (toBeginCompact fill) o d = o
 since toBeginOrder o d = o
+since toBeginPut o d = o
+since (toBeginDelete key) o d = o
 since toStep o d = o
 since (toFlush p) o d = o
 since toForce o d = o
@@ -75,33 +101,46 @@ since (toCheckpoint clear) o d = pick (eqb (checkpoint clear d .reply) 0) (d .wo
 since (toFind key) o d = o
 since (toList low high) o d = o
 
--- calls and cuts, from a start with the records rs, lead to the buffers and numbers d; o are the pages that stood when the log's check record
--- was written. `forced` is how many bytes of the log calls have forced, whatever the numbers say after a cut; on: the work pages are there,
+-- the records of that moment, after a call: an accepted checkpoint counts the puts and deletes of the log that it replaces
+unfoldable pub recordsSince : Call → (rs : List (List ℕ)) → Lent → List (List ℕ)
+recordsSince (toBeginCompact fill) rs d = rs
+recordsSince toBeginOrder rs d = rs
+recordsSince toBeginPut rs d = rs
+recordsSince (toBeginDelete key) rs d = rs
+recordsSince toStep rs d = rs
+recordsSince (toFlush p) rs d = rs
+recordsSince toForce rs d = rs
+recordsSince (toCheckpoint clear) rs d = pick (eqb (checkpoint clear d .reply) 0) (given (readLog (d .log)) rs (λ g. savedBy (g .recs) rs)) rs
+recordsSince (toFind key) rs d = rs
+recordsSince (toList low high) rs d = rs
+
+-- calls and cuts lead to the buffers and numbers d; o are the pages that stood when the log's check record was written, and rs the records of
+-- that moment. `forced` is how many bytes of the log calls have forced, whatever the numbers say after a cut; on: the work pages are there,
 -- off: a cut has come and no recovery was accepted since
-pub data History (rs : List (List ℕ)) : (o : List ℕ) (d : Lent) (forced : ℕ) (on : Bool) → Type 0 where
+pub data History : (rs : List (List ℕ)) (o : List ℕ) (d : Lent) (forced : ℕ) (on : Bool) → Type 0 where
   -- a finished build
-  built : (f g : ℕ) (d : Lent) → Bytes (d .bytes) → build f g d .reply ≡ 0 → rs ≡ rowsOf 16 (length (d .bytes) / 16) (d .bytes)
-      → History rs (build f g d .now .work) (build f g d .now) 24 true
+  built : (f g : ℕ) (d : Lent) → Bytes (d .bytes) → build f g d .reply ≡ 0
+      → History (rowsOf 16 (length (d .bytes) / 16) (d .bytes)) (build f g d .now .work) (build f g d .now) 24 true
   -- an accepted recovery whose log held only its check record
   woken : (d : Lent) (c : Check) → InBytes d → recover d .reply ≡ 0 → readLog (d .log) ≡ some (record { top = c; recs = [] })
-      → rs ≡ allRecords (pages (recover d .now .work)) → History rs (recover d .now .work) (recover d .now) 24 true
+      → History (allRecords (pages (recover d .now .work))) (recover d .now .work) (recover d .now) 24 true
   -- any call, accepted or refused
-  called : {o : List ℕ} {d : Lent} {forced : ℕ} (k : Call) → History rs o d forced true
-      → History rs (since k o d) (does k d .now) (does k d .now .forced) true
+  called : {rs : List (List ℕ)} {o : List ℕ} {d : Lent} {forced : ℕ} (k : Call) → History rs o d forced true
+      → History (recordsSince k rs d) (since k o d) (does k d .now) (does k d .now .forced) true
   -- a cut between any two writes, also one after another
-  cut : {o : List ℕ} {d d′ : Lent} {forced : ℕ} {on : Bool} → History rs o d forced on → Cut forced d d′ → History rs o d′ forced false
+  cut : {rs : List (List ℕ)} {o : List ℕ} {d d′ : Lent} {forced : ℕ} {on : Bool} → History rs o d forced on → Cut forced d d′ → History rs o d′ forced false
   -- an accepted recovery; it forces the log as it found it. A cut within it is one before it or one after it that keeps fewer of its records
-  recovery : {o : List ℕ} {d : Lent} {forced : ℕ} {on : Bool} → History rs o d forced on → recover d .reply ≡ 0
+  recovery : {rs : List (List ℕ)} {o : List ℕ} {d : Lent} {forced : ℕ} {on : Bool} → History rs o d forced on → recover d .reply ≡ 0
       → History rs o (recover d .now) (recover d .now .forced) true
   -- a recovery that is refused because a buffer has the wrong length
-  unsized : {o : List ℕ} {d : Lent} {forced : ℕ} {on : Bool} → History rs o d forced on → threeSized d ≡ false
+  unsized : {rs : List (List ℕ)} {o : List ℕ} {d : Lent} {forced : ℕ} {on : Bool} → History rs o d forced on → threeSized d ≡ false
       → History rs o (recover d .now) forced on
   -- a recovery that is lent these work pages beside some other store or log, and is refused past its lengths: the work pages are lost
-  mislent : {o : List ℕ} {d : Lent} {forced : ℕ} {on : Bool} (e : Lent) → History rs o d forced on → e .work ≡ d .work
+  mislent : {rs : List (List ℕ)} {o : List ℕ} {d : Lent} {forced : ℕ} {on : Bool} (e : Lent) → History rs o d forced on → e .work ≡ d .work
       → threeSized e ≡ true → (recover e .reply ≡ 0 → ⊥)
       → History rs o (lent (d .used) (d .forced) (recover e .now .work) (d .store) (d .log) (d .bytes)) forced false
-  -- list may be lent any room
-  lentRoom : {o : List ℕ} {d : Lent} {forced : ℕ} {on : Bool} (b : List ℕ) → History rs o d forced on
+  -- list may be lent any room, put any record
+  lentBytes : {rs : List (List ℕ)} {o : List ℕ} {d : Lent} {forced : ℕ} {on : Bool} (b : List ℕ) → Bytes b → History rs o d forced on
       → History rs o (lent (d .used) (d .forced) (d .work) (d .store) (d .log) b) forced on
 
 -- ---- refused calls
@@ -122,6 +161,9 @@ pub data Uncut (o : List ℕ) (c : Check) : (e : Lent) → Type 0 where
   start : Uncut o c (lent 24 24 o o (newLog c) [])
   compact : {e : Lent} (fill : ℕ) → Uncut o c e → beginCompact fill e .reply ≡ 0 → Uncut o c (beginCompact fill e .now)
   order : {e : Lent} → Uncut o c e → beginOrder e .reply ≡ 0 → Uncut o c (beginOrder e .now)
+  put : {e : Lent} → Uncut o c e → beginPut e .reply ≡ 0 → Uncut o c (beginPut e .now)
+  delete : {e : Lent} (key : ℕ) → Uncut o c e → beginDelete key e .reply ≡ 0 → Uncut o c (beginDelete key e .now)
+  lends : {e : Lent} (b : List ℕ) → Uncut o c e → Uncut o c (lent (e .used) (e .forced) (e .work) (e .store) (e .log) b)
   onward : {e : Lent} → Uncut o c e → step e .reply ≡ 0 → Uncut o c (step e .now)
 
 -- two calls reply and return the same
@@ -138,16 +180,16 @@ pub record Rests (key : ℕ) (d : Lent) : Type 0 where
       → page 0 w ≡ page 0 (d .work) → page base w ≡ page base (d .work) → page leaf w ≡ page leaf (d .work)
       → Alike (find key (lent (d .used) (d .forced) w (d .store) (d .log) (d .bytes))) (find key d)
 
--- recovery lent d is accepted, and leaves pages in form that are a well-formed tree with exactly the starting records, every begun unit
--- complete, log and work pages byte for byte those of a run of the surviving log without a cut, from the pages o at its check record; what find
+-- recovery lent d is accepted, and leaves pages in form that are a well-formed tree with exactly the records rs at the check record as the surviving
+-- log's begun puts and deletes have made them, every begun unit complete, log and work pages byte for byte those of a run of the surviving log without a cut, from the pages o at its check record; what find
 -- then answers rests on three pages
 pub record Kept (rs : List (List ℕ)) (o : List ℕ) (d : Lent) : Type 0 where
   pub accepted : recover d .reply ≡ 0
   pub form : allFormed 0 (pages (recover d .now .work)) ≡ true
   pub tree : wellFormed (pages (recover d .now .work)) ≡ true
-  pub records : allRecords (pages (recover d .now .work)) ≡ rs
   pub found : Log  -- the log as it was found
   pub was : readLog (d .log) ≡ some found
+  pub records : allRecords (pages (recover d .now .work)) ≡ savedBy (found .recs) rs
   pub left : Log  -- and as it is left
   pub is : readLog (recover d .now .log) ≡ some left
   pub complete : atEnd left .opened ≡ none

@@ -4,28 +4,30 @@ use Prim.Native.Nat.{ℕ, _+_, _-_, _≤_, _<_}
 use native.Mathlib.Omega.{arith}
 use mathlib.Core.Path.{_≡_, refl, sym, ap, _∙_, subst}
 use mathlib.Core.Bool.{true, false, false≢true}
-use mathlib.Core.List.{List, [], _∷_}
-use mathlib.Core.Option.{Option, some, none}
+use mathlib.Core.List.{List}
+use mathlib.Core.Option.{Option, some, none, Option·some-injective}
 use lib.ListN.{length, take, length-take}
 use lib.Seq.{take-append-le, take-take}
 use Rattle.field.specs.Test.{given}
 use Rattle.field.specs.Bytes.{Bytes, put}
 use Rattle.field.proofs.Test.{given-some}
 use Rattle.log.specs.Record.{size, encode}
-use Rattle.log.specs.Plan.{Step}
 use Rattle.log.specs.Log.{Open, State, Log, readLog, atEnd}
 use Rattle.log.specs.Scan.{shown, lost, answer, scanned, turned, Ready}
 use Rattle.log.specs.declared.scan.Walk.{Walk}
 use Rattle.log.proofs.Record.{size-least}
 use Rattle.log.proofs.Read.{readLog-facts}
 use Rattle.log.proofs.Append.{grown, atEnd-grown}
-use Rattle.log.proofs.Toward.{Opened, shown-opened, shown-shut, scanned-walk, Next, toward-end, toward-next, turned-ok, turn-grown}
+use Rattle.log.proofs.Toward.{shown-shut, scanned-walk, turned-ok, turn-grown}
 use Rattle.tree.specs.Walk.{InForm}
-use Rattle.store.specs.Calls.{Went, stopped, went, andThen, todoOf, append, finish}
+use Rattle.store.specs.Calls.{Went, stopped, went, andThen, finishOpen}
 use Rattle.forward.specs.Appends as Appends
-use Rattle.forward.specs.Appends.{appendFirst, appendNext, replyIn, workIn, logIn, Goes}
+use Rattle.forward.specs.Appends.{appendNext, replyIn, workIn, logIn, Goes}
 use Rattle.recovering.specs.Finishes.{Found, finishing, Finishes}
-use Rattle.forward.proofs.Grows.{Grown, append-grows, append-stops}
+use Rattle.forward.proofs.Stands.{Ends, ends}
+use Rattle.forward.proofs.Grows.{Grown}
+use Rattle.forward.proofs.Finish.{onward}
+use Rattle.forward.proofs.Next.{open-speaks, Gone, next-open, next-finish, next-grows}
 
 -- ---- the log that one pass has read
 
@@ -96,30 +98,9 @@ going-start w l v bw bl f =
       later = omega arith;
     }
 
-pub finishing-is : (w l : List ℕ) (g : Log) → readLog l ≡ some g → finishing w l ≡ finish (todoOf (atEnd g .opened)) (atEnd g) w l
+pub finishing-is : (w l : List ℕ) (g : Log) → readLog l ≡ some g → finishing w l ≡ finishOpen (atEnd g .opened) (atEnd g) w l
 unfolding finishing
 finishing-is w l g e = given-some (readLog l) g (stopped 2) _ e
-
-next-is : (w l : List ℕ) (g : Log) → readLog l ≡ some g → appendNext w l ≡ appendFirst (todoOf (atEnd g .opened)) (atEnd g) w l
-unfolding appendNext
-next-is w l g e = given-some (readLog l) g (stopped 2) _ e
-
-todo-some : (o : Option Open) (u : Open) → o ≡ some u → todoOf o ≡ u .todo
-unfolding todoOf
-todo-some o u e = rw e
-
-todo-none : (o : Option Open) → o ≡ none → todoOf o ≡ []
-unfolding todoOf
-todo-none o e = rw e
-
--- finishing with a first step
-first-finish : (x : Step) (xs : List Step) (s : State) (w l : List ℕ) (o : Went) → append x xs s w l ≡ o → finish (x ∷ xs) s w l ≡ andThen o (finish xs)
-unfolding finish
-first-finish x xs s w l o e = ap (λ (y : Went). andThen y (finish xs)) e
-
-first-append : (x : Step) (xs : List Step) (s : State) (w l : List ℕ) → appendFirst (x ∷ xs) s w l ≡ append x xs s w l
-unfolding appendFirst
-first-append x xs s w l = refl
 
 -- what lies in front of a write
 take-put : (n i : ℕ) (bs l : List ℕ) → n ≤ i → i ≤ length l → take n (put i bs l) ≡ take n l
@@ -137,13 +118,13 @@ module _ (w₀ l₀ : List ℕ) (v₀ : Walk) (w l : List ℕ) (v : Walk) (p : G
 
   -- no unit is open
   pub going-end : v .opened ≡ false → Finishes (finishing w₀ l₀) l₀ v₀ 0 v w l
-  unfolding finish
+  unfolding finishOpen
   going-end h =
-      let e : todoOf (atEnd (p .log) .opened) ≡ [] = todo-none _ (shown-shut (atEnd (p .log)) (sym (ap (λ (x : Walk). x .opened) (p .shows)) ∙ h)) in
+      let e : atEnd (p .log) .opened ≡ none = shown-shut (atEnd (p .log)) (sym (ap (λ (x : Walk). x .opened) (p .shows)) ∙ h) in
       record {
         done = λ z. record {
           state = atEnd (p .log);
-          is = p .same ∙ finishing-is w l (p .log) (p .read) ∙ ap (λ (ts : List Step). finish ts (atEnd (p .log)) w l) e;
+          is = p .same ∙ finishing-is w l (p .log) (p .read) ∙ ap (λ (o : Option Open). finishOpen o (atEnd (p .log)) w l) e;
           shows = p .shows;
           form = p .form;
           inside = going-inside;
@@ -158,24 +139,16 @@ module _ (w₀ l₀ : List ℕ) (v₀ : Walk) (w l : List ℕ) (v : Walk) (p : G
     going-opened =
         record { walk = p .shows ∙ sym (scanned-walk 0 l (p .log) (p .read)); ok = ap (λ (x : Walk). x .ok) (p .shows) ∙ shown-ok (atEnd (p .log)); unit = h }
 
-    unit : Opened (atEnd (p .log))
-    unit = shown-opened (atEnd (p .log)) (sym (ap (λ (x : Walk). x .opened) (p .shows)) ∙ h)
+    end : Ends l v
+    end = ends l v (p .log-bytes) going-opened
 
-    next : Next l (atEnd (p .log)) (unit .unit)
-    next = toward-next (toward-end l (p .log) (p .log-bytes) (p .read)) (unit .is)
+    same-log : end .log ≡ p .log
+    same-log = Option·some-injective _ _ (sym (end .read) ∙ p .read)
 
-    steps : todoOf (atEnd (p .log) .opened) ≡ next .step ∷ next .others
-    steps = todo-some _ (unit .unit) (unit .is) ∙ next .todo
-
-    appended : appendNext w l ≡ append (next .step) (next .others) (atEnd (p .log)) w l
-    appended =
-        next-is w l (p .log) (p .read) ∙ ap (λ (ts : List Step). appendFirst ts (atEnd (p .log)) w l) steps
-        ∙ first-append (next .step) (next .others) (atEnd (p .log)) w l
-
-    all-is : (o : Went) → appendNext w l ≡ o → finishing w₀ l₀ ≡ andThen o (finish (next .others))
+    all-is : (o : Went) → appendNext w l ≡ o → finishing w₀ l₀ ≡ andThen o onward
     all-is o e =
-        p .same ∙ finishing-is w l (p .log) (p .read) ∙ ap (λ (ts : List Step). finish ts (atEnd (p .log)) w l) steps
-        ∙ first-finish (next .step) (next .others) (atEnd (p .log)) w l o (sym appended ∙ e)
+        p .same ∙ finishing-is w l (end .log) (end .read) ∙ ap (λ (u : Option Open). finishOpen u (atEnd (end .log)) w l) (end .opened)
+        ∙ next-finish end w (p .form .whole) (p .long) (p .work-bytes) (p .log-bytes) ∙ ap (λ (y : Went). andThen y onward) e
 
     module _ (reply : ℕ) (w′ l′ : List ℕ) (a : Goes (appendNext w l) w l reply w′ l′) where
       -- stopped
@@ -199,59 +172,63 @@ module _ (w₀ l₀ : List ℕ) (v₀ : Walk) (w l : List ℕ) (v : Walk) (p : G
 
       on-by : (o : Went) → appendNext w l ≡ o → reply ≡ replyIn o → w′ ≡ workIn o w → l′ ≡ logIn o l → reply ≡ 0 → On
       unfolding replyIn workIn logIn
-      on-by (stopped q) e r i k n = absurd (append-stops (next .step) (next .others) (atEnd (p .log)) w l q (sym appended ∙ e) (sym r ∙ n))
+      on-by (stopped q) e r i k n = absurd (open-speaks (end .unit) (atEnd (end .log)) w l q (sym (next-open end w) ∙ e) (sym r ∙ n))
       on-by (went s′ x y) e r i k n = record { state = s′; is = e ∙ rw (i, k) }
 
       module _ (n : reply ≡ 0) where
         on : On
         on = on-by (appendNext w l) refl (a .reply-is) (a .work-is) (a .log-is) n
 
-        grew : Grown (p .log) (next .others) w l (on .state) w′ l′
-        grew = append-grows (p .log) (next .step) (next .others) w l (on .state) w′ l′ (p .long) (p .work-bytes) (p .log-bytes) (p .read) steps (sym appended ∙ on .is)
+        gone : Gone (p .log) w l (on .state) w′ l′
+        gone =
+            subst (λ (g : Log). Gone g w l (on .state) w′ l′) same-log
+            (next-grows end w (p .form .whole) (p .long) (p .work-bytes) (p .log-bytes) (on .state) w′ l′ (on .is))
 
-        log-is : put ((atEnd (p .log)) .at) (encode ((atEnd (p .log)) .number + 1) (grew .added)) l ≡ l′
+        grew : Grown (p .log) (gone .added) w l (on .state) w′ l′
+        grew = gone .grown
+
+        log-is : put ((atEnd (p .log)) .at) (encode ((atEnd (p .log)) .number + 1) (gone .added)) l ≡ l′
         log-is = sym (grew .written)
 
         ready : Ready l′ v
         ready =
             subst (Ready l′) (sym (p .shows))
-            (subst (λ (y : List ℕ). Ready y (shown (atEnd (p .log)))) log-is (turn-grown l (p .log) (grew .added) (p .log-bytes) (p .read) (grew .fits) .0))
+            (subst (λ (y : List ℕ). Ready y (shown (atEnd (p .log)))) log-is (turn-grown l (p .log) (gone .added) (p .log-bytes) (p .read) (grew .fits) .0))
 
-        turned-is : turned l′ v ≡ shown (atEnd (grown (p .log) (grew .added)))
+        turned-is : turned l′ v ≡ shown (atEnd (grown (p .log) (gone .added)))
         turned-is =
             ap (turned l′) (p .shows) ∙ ap (λ (y : List ℕ). turned y (shown (atEnd (p .log)))) (grew .written)
-            ∙ turn-grown l (p .log) (grew .added) (p .log-bytes) (p .read) (grew .fits) .1
-            ∙ ap shown (sym (atEnd-grown (p .log) (grew .added)))
+            ∙ turn-grown l (p .log) (gone .added) (p .log-bytes) (p .read) (grew .fits) .1
+            ∙ ap shown (sym (atEnd-grown (p .log) (gone .added)))
 
         pub going-past : Ready l′ v × ((turned l′ v) .ok ≡ true)
-        going-past = (ready, turned-ok l′ v (atEnd (grown (p .log) (grew .added))) turned-is)
+        going-past = (ready, turned-ok l′ v (atEnd (grown (p .log) (gone .added))) turned-is)
 
         module _ (v′ : Walk) (t : v′ ≡ turned l′ v) where
-          turns : v′ ≡ shown (atEnd (grown (p .log) (grew .added)))
+          turns : v′ ≡ shown (atEnd (grown (p .log) (gone .added)))
           turns = t ∙ turned-is
 
-          at-grew : v′ .at ≡ v .at + size (grew .added)
+          at-grew : v′ .at ≡ v .at + size (gone .added)
           at-grew =
-              at-is (atEnd (grown (p .log) (grew .added))) v′ turns ∙ ap (λ (x : State). x .at) (sym (grew .state)) ∙ grew .higher
-              ∙ ap (λ (k : ℕ). k + size (grew .added)) (sym (at-is (atEnd (p .log)) v (p .shows)))
+              at-is (atEnd (grown (p .log) (gone .added))) v′ turns ∙ ap (λ (x : State). x .at) (sym (grew .state)) ∙ grew .higher
+              ∙ ap (λ (k : ℕ). k + size (gone .added)) (sym (at-is (atEnd (p .log)) v (p .shows)))
 
           number-grew : v′ .number .0 ≡ v .number .0 + 1
           number-grew =
-              number-is (atEnd (grown (p .log) (grew .added))) v′ turns ∙ ap (λ (x : State). x .number) (sym (grew .state)) ∙ grew .later
+              number-is (atEnd (grown (p .log) (gone .added))) v′ turns ∙ ap (λ (x : State). x .number) (sym (grew .state)) ∙ grew .later
               ∙ ap (λ (k : ℕ). k + 1) (sym (number-is (atEnd (p .log)) v (p .shows)))
 
           same-on : finishing w₀ l₀ ≡ finishing w′ l′
           unfolding andThen
           same-on =
               all-is (went (on .state) w′ l′) (on .is)
-              ∙ ap (λ (ts : List Step). finish ts (on .state) w′ l′) (sym (grew .todo))
-              ∙ ap (λ (x : State). finish (todoOf (x .opened)) x w′ l′) (grew .state)
-              ∙ sym (finishing-is w′ l′ (grown (p .log) (grew .added)) (grew .read))
+              ∙ ap (λ (x : State). onward x w′ l′) (grew .state)
+              ∙ sym (finishing-is w′ l′ (grown (p .log) (gone .added)) (grew .read))
 
           pub going-more : Going w₀ l₀ v₀ w′ l′ v′
           going-more =
               record {
-                log = grown (p .log) (grew .added);
+                log = grown (p .log) (gone .added);
                 read = grew .read;
                 shows = turns;
                 form = grew .form (p .form);
@@ -269,5 +246,5 @@ module _ (w₀ l₀ : List ℕ) (v₀ : Walk) (w l : List ℕ) (v : Walk) (p : G
 
           pub going-less : 8192 - v′ .at < 8192 - v .at
           going-less =
-              let k : v′ .at ≤ 8192 = omega (arith, at-is (atEnd (grown (p .log) (grew .added))) v′ turns, ap (λ (x : State). x .at) (grew .state), grew .inside) in
-              omega (arith, at-grew, size-least (grew .added))
+              let k : v′ .at ≤ 8192 = omega (arith, at-is (atEnd (grown (p .log) (gone .added))) v′ turns, ap (λ (x : State). x .at) (grew .state), grew .inside) in
+              omega (arith, at-grew, size-least (gone .added))

@@ -9,7 +9,7 @@ use Rattle.log.specs.Log.{State, readLog, atEnd}
 use Rattle.log.specs.Scan.{shown, scanned}
 use Rattle.log.specs.declared.scan.Walk.{Walk}
 use Rattle.tree.specs.Walk.{InForm}
-use Rattle.store.specs.Calls.{Lent, Left, zeroed, Went, stopped, went, todoOf, finish, recovered, logLength}
+use Rattle.store.specs.Calls.{Lent, Left, zeroed, Went, stopped, went, finishOpen, recovered, logLength}
 
 -- what is found before finishing: pages in form, and what one pass over the log knows at its end
 pub record Found (w l : List ℕ) (v : Walk) : Type 0 where
@@ -20,7 +20,7 @@ pub record Found (w l : List ℕ) (v : Walk) : Type 0 where
 
 -- the unit that is open at the end of the log l is finished on the pages w
 unfoldable pub finishing : (w l : List ℕ) → Went
-finishing w l = given (readLog l) (stopped 2) (λ g. finish (todoOf (atEnd g .opened)) (atEnd g) w l)
+finishing w l = given (readLog l) (stopped 2) (λ g. finishOpen (atEnd g .opened) (atEnd g) w l)
 
 -- where that went to an end: the pages and the log there, and the walk v from the numbers that were found
 pub record Ended (o : Went) (found v : Walk) (w′ l′ : List ℕ) : Type 0 where
@@ -39,4 +39,4 @@ pub record Finishes (o : Went) (l : List ℕ) (found : Walk) (reply : ℕ) (v : 
 
 -- finishing, then test 8
 unfoldable pub completing : Lent → (w : List ℕ) → Left
-completing d w = given (readLog (d .log)) (zeroed 2 d) (λ g. recovered d (atEnd g) (finish (todoOf (atEnd g .opened)) (atEnd g) w (d .log)))
+completing d w = given (readLog (d .log)) (zeroed 2 d) (λ g. recovered d (atEnd g) (finishOpen (atEnd g .opened) (atEnd g) w (d .log)))

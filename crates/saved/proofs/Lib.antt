@@ -16,3 +16,8 @@ pub mod Take
 pub mod Drop
 pub mod Delete
 pub mod Held
+pub mod Changed
+pub mod Ended
+pub mod Resumed
+pub mod Entered
+pub mod Lacking

@@ -8,3 +8,5 @@ pub mod Told
 pub mod Halves
 pub mod Puts
 pub mod Deletes
+pub mod Resumes
+pub mod Replies

@@ -14,7 +14,7 @@ use Rattle.page.specs.Page.{count}
 use Rattle.page.specs.Pages.{page}
 use Rattle.page.specs.Each.{nil}
 use Rattle.page.proofs.Pages.{bytes-page}
-use Rattle.log.specs.Record.{Begin, LB, lengthOf, kindOf, carried, size, encode}
+use Rattle.log.specs.Record.{Begin, saves, LB, lengthOf, kindOf, carried, size, encode}
 use Rattle.log.specs.Plan.{Step, takeOut, bringIn, point, close, compactPlan, movePlan, swapPlan, plan}
 use Rattle.log.specs.Log.{readBegin}
 use Rattle.log.specs.Write.{beginOf}
@@ -27,16 +27,16 @@ use Rattle.starting.specs.Begins.{recordOf, Writable}
 -- ---- the record
 
 -- an LB's bytes
-pub begin-size : (n : ℕ) (g : Begin) → length (encode n (LB g)) ≡ 44
-unfolding size lengthOf kindOf carried
-begin-size n g = length-encode n (LB g) nil
+pub begin-size : (n : ℕ) (c : Choice) → length (encode n (LB (recordOf c 0))) ≡ 44
+unfolding size lengthOf kindOf carried recordOf beginOf
+begin-size n c = length-encode n (LB (recordOf c 0)) nil
 
 -- written over as many bytes, it is read as the unit
 pub read-back : (c : Choice) (m m′ : List ℕ) → Writable c → length m ≡ 44 → m′ ≡ put 0 (encode 0 (LB (recordOf c 0))) m → readBegin 0 m′ ≡ recordOf c 0
 unfolding recordOf beginOf
 read-back c m m′ w h e =
     let b : List ℕ = encode 0 (LB (recordOf c 0)) in
-    ap (readBegin 0) (e ∙ put-whole b m (begin-size 0 (recordOf c 0) ∙ sym h) ∙ sym (append-nil b)) ∙ readBegin-encode 0 (recordOf c 0) [] (w .ok)
+    ap (readBegin 0) (e ∙ put-whole b m (begin-size 0 c ∙ sym h) ∙ sym (append-nil b)) ∙ readBegin-encode 0 (recordOf c 0) [] (w .ok) nil
 
 -- ---- its steps
 
@@ -47,7 +47,7 @@ steps g =
     let q : ℕ = getD (g .bases) 1 p in
     let a : ℕ = getD (g .leaves) 0 0 in
     let b : ℕ = getD (g .leaves) 1 0 in
-    pick (eqb (g .type) 1) (compactPlan p (g .dest) (g .leaves)) (pick (eqb (g .type) 2) (swapPlan p q a b) (movePlan p a (g .dest)))
+    pick (eqb (g .type) 1) (compactPlan p (g .dest) (g .leaves)) (pick (eqb (g .type) 2) (swapPlan p q a b) (pick (saves g) [] (movePlan p a (g .dest))))
 
 pub steps-end : (g : Begin) → plan g ≡ steps g ++ (close (g .unit) ∷ [])
 unfolding plan steps
@@ -70,12 +70,12 @@ closing-length (x ∷ xs) u v = ap suc (closing-length xs u v)
 -- so the bytes and the records of a unit do not depend on its number
 module _ (c : Choice) (u : ℕ) where
   pub room-any : (w : List ℕ) → room w (plan (recordOf c u)) ≡ room w (plan (recordOf c 0))
-  unfolding recordOf beginOf steps
+  unfolding recordOf beginOf steps saves
   room-any w =
       ap (room w) (steps-end (recordOf c u)) ∙ closing-room w (steps (recordOf c 0)) u 0 ∙ sym (ap (room w) (steps-end (recordOf c 0)))
 
   pub length-any : length (plan (recordOf c u)) ≡ length (plan (recordOf c 0))
-  unfolding recordOf beginOf steps
+  unfolding recordOf beginOf steps saves
   length-any =
       ap length (steps-end (recordOf c u)) ∙ closing-length (steps (recordOf c 0)) u 0 ∙ sym (ap length (steps-end (recordOf c 0)))
 

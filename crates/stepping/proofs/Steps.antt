@@ -7,17 +7,17 @@ use mathlib.Core.List.{List, [], _∷_}
 use mathlib.Core.Option.{Option, some, none, Option·some-injective}
 use lib.ListN.{length, take, drop}
 use borrow.Author.Tests.{not-true, not-false}
-use Rattle.field.specs.Test.{need}
+use Rattle.field.specs.Test.{pick, need, given}
 use Rattle.field.specs.Bytes.{Bytes, put}
-use Rattle.field.proofs.Test.{need-true, need-false, given-some, given-none, bind-some, when-some}
+use Rattle.field.proofs.Test.{pick-true, pick-false, need-true, need-false, given-some, given-none, bind-some, when-some}
 use Rattle.page.specs.Page.{formed}
 use Rattle.page.specs.Pages.{page}
 use Rattle.page.proofs.Pages.{lent-page}
 use Rattle.field.specs.declared.PageNo.{PageNo}
 use Rattle.field.specs.declared.UnitNo.{UnitNo}
-use Rattle.log.specs.Record.{Rec, encode}
+use Rattle.log.specs.Record.{saves, Rec, encode}
 use Rattle.log.specs.Plan.{Step, takeOut, bringIn, point, close}
-use Rattle.log.specs.Log.{Open, State, after, Log, readLog, atEnd}
+use Rattle.log.specs.Log.{Open, State, savesAt, after, Log, readLog, atEnd}
 use Rattle.log.specs.Scan.{shown, scanned, turned, Ready}
 use Rattle.log.specs.Steps.{stepOf}
 use Rattle.log.specs.declared.scan.Scan.{Scan}
@@ -28,16 +28,16 @@ use Rattle.log.proofs.Append.{atEnd-grown}
 use Rattle.log.proofs.Toward.{scanned-walk, turn-grown}
 use Rattle.unit.specs.Next.{targetOf}
 use Rattle.unit.proofs.Places.{StepKeeps}
-use Rattle.store.specs.Calls.{Lent, lent, Left, left, refused, twoSized, known, Went, stopped, went, todoOf, append, formedAt, stepWith, stepped, step}
+use Rattle.store.specs.Calls.{Lent, lent, Left, left, refused, twoSized, known, Went, stopped, went, conclude, lackedBy, formedAt, stepWith, stepOpen, stepped, step}
 use Rattle.store.specs.Knows.{knows}
 use Rattle.unit.specs.Again.{nextStep}
-use Rattle.forward.specs.Appends.{appendNext, replyIn, workIn, logIn, Goes, Opened}
+use Rattle.forward.specs.Appends.{appendFirst, appendOpen, appendNext, replyIn, workIn, logIn, Goes, Opened}
 use Rattle.store.proofs.Chain.{two-no-work, two-no-log, two-sized}
 use Rattle.store.proofs.Passed.{Knows, knows-yes, knows-no, is-shut}
 use Rattle.store.proofs.Replies.{refused-as}
-use Rattle.forward.proofs.Stands.{Stands, stands, todo-is, step-keeps}
-use Rattle.forward.proofs.Appends.{next-append}
-use Rattle.forward.proofs.Grows.{Grown, append-grows, append-stops}
+use Rattle.forward.proofs.Stands.{Ends, ends, Stands, todo-is, step-keeps}
+use Rattle.forward.proofs.Next.{open-speaks, Gone, next-open, next-grows}
+use Rattle.stepping.specs.Formed.{firstFormed, openFormed, nextFormed}
 
 -- ---- each way through its tests
 
@@ -57,7 +57,7 @@ module _ (d : Lent) where
       step-shut e =
           need-true (twoSized d) (refused 0 1 d) _ s ∙ given-some (known d) g (refused 0 2 d) _ k ∙ given-none (atEnd g .opened) (refused 0 10 d) _ e
 
-      pub step-goes-on : (o : Open) → atEnd g .opened ≡ some o → step d ≡ stepped d (stepWith (o .todo) (atEnd g) (d .work) (d .log))
+      pub step-goes-on : (o : Open) → atEnd g .opened ≡ some o → step d ≡ stepped d (stepOpen o (atEnd g) (d .work) (d .log))
       unfolding step
       step-goes-on o e =
           need-true (twoSized d) (refused 0 1 d) _ s ∙ given-some (known d) g (refused 0 2 d) _ k ∙ given-some (atEnd g .opened) o (refused 0 10 d) _ e
@@ -97,10 +97,6 @@ shown-ok : (s : State) → (shown s) .ok ≡ true
 unfolding shown
 shown-ok s = refl
 
-todo-some : (o : Option Open) (u : Open) → o ≡ some u → todoOf o ≡ u .todo
-unfolding todoOf
-todo-some o u e = rw e
-
 turned-as : (l m : List ℕ) (w : Walk) (g : Log) (r : Rec) (t : State) → m ≡ put (atEnd g .at) (encode (atEnd g .number + 1) r) l → w ≡ shown (atEnd g)
     → t ≡ after (atEnd g) r
     → Ready (put (atEnd g .at) (encode (atEnd g .number + 1) r) l) (shown (atEnd g))
@@ -108,15 +104,16 @@ turned-as : (l m : List ℕ) (w : Walk) (g : Log) (r : Rec) (t : State) → m �
     → Ready m w × (turned m w ≡ shown t)
 turned-as l m w g r t e q h p = (rw (e, q) (p .0), rw (e, q, h) (p .1))
 
-module _ (work : List ℕ) {l : List ℕ} {w : Walk} (s : Stands l w) (x : Step) (next : nextStep l w ≡ x) where
-  pub went-on : length l ≡ 8192 → Bytes work → Bytes l → (r : ℕ) (v m : List ℕ) → Goes (appendNext work l) work l r v m → r ≡ 0 → Stepped work l w v m
-  went-on long bw bl r v m g z =
-      let h = next-append work s x next in
-      let (t, e) = went-by (appendNext work l) work l r v m (λ q i. append-stops x (s .next .others) (atEnd (s .log)) work l q (sym h ∙ i)) g z in
-      let todo : todoOf (atEnd (s .log) .opened) ≡ x ∷ s .next .others = todo-some _ (s .unit) (s .opened) ∙ todo-is s x next in
-      let k : Grown (s .log) (s .next .others) work l t v m = append-grows (s .log) x (s .next .others) work l t v m long bw bl (s .read) todo (sym h ∙ e) in
-      let p = turned-as l m w (s .log) (k .added) t (k .written) (s .walk) (k .state ∙ atEnd-grown (s .log) (k .added)) (turn-grown l (s .log) (k .added) bl (s .read) (k .fits)) in
-      record { state = t; is = e; ready = p .0; shows = p .1; inside = k .inside }
+module _ (work : List ℕ) {l : List ℕ} {w : Walk} (e : Ends l w) where
+  pub went-on : length work ≡ 16384 → length l ≡ 8192 → Bytes work → Bytes l → (r : ℕ) (v m : List ℕ) → Goes (appendNext work l) work l r v m → r ≡ 0 → Stepped work l w v m
+  went-on whole long bw bl r v m g z =
+      let (t, q) =
+      went-by (appendNext work l) work l r v m (λ q i. open-speaks (e .unit) (atEnd (e .log)) work l q (sym (next-open e work) ∙ i)) g z in
+      let n : Gone (e .log) work l t v m = next-grows e work whole long bw bl t v m q in
+      let k = n .grown in
+      let p =
+      turned-as l m w (e .log) (n .added) t (k .written) (e .walk) (k .state ∙ atEnd-grown (e .log) (n .added)) (turn-grown l (e .log) (n .added) bl (e .read) (k .fits)) in
+      record { state = t; is = q; ready = p .0; shows = p .1; inside = k .inside }
 
 -- the log's end after it
 pub end-is : {work l : List ℕ} {w : Walk} {v m : List ℕ} (c : Stepped work l w v m) (y : Walk) → y ≡ turned m w → y .at ≡ c .state .at
@@ -175,10 +172,39 @@ module _ (work : List ℕ) (x : Planned) where
 
 -- ---- step's answers
 
-with-first : (x : Step) (xs todo : List Step) (s : State) (w l : List ℕ) (o : Went) → todo ≡ x ∷ xs → append x xs s w l ≡ o
-    → stepWith todo s w l ≡ need (formedAt (targetOf x) w) (stopped 3) o
-unfolding stepWith
-with-first x xs todo s w l o e q = rw (e, q)
+with-first : (todo : List Step) (s : State) (w l : List ℕ) → stepWith todo s w l ≡ need (firstFormed todo w) (stopped 3) (appendFirst todo s w l)
+unfolding stepWith firstFormed appendFirst need
+with-first [] s w l = refl
+with-first (x ∷ xs) s w l = refl
+
+-- test 3 and then the record
+with-open : (o : Open) (s : State) (w l : List ℕ) → stepOpen o s w l ≡ need (openFormed o w) (stopped 3) (appendOpen o s w l)
+unfolding stepOpen openFormed appendOpen
+with-open o s w l = by-kind (saves (o .start))
+  where
+    by-kind : (t : Bool) → pick t (conclude 1 (lackedBy o s w) s w l) (stepWith (o .todo) s w l)
+        ≡ need (pick t true (firstFormed (o .todo) w)) (stopped 3) (pick t (conclude 1 (lackedBy o s w) s w l) (appendFirst (o .todo) s w l))
+    by-kind true = unfold pick need in refl
+    by-kind false = unfold pick in (with-first (o .todo) s w l)
+
+module _ {l : List ℕ} {w : Walk} (e : Ends l w) where
+  formed-open : (work : List ℕ) → nextFormed work l ≡ openFormed (e .unit) work
+  unfolding nextFormed given
+  formed-open work = rw (e .read, e .opened)
+
+  -- a put or delete
+  pub formed-save! : (work : List ℕ) → savesAt (drop (w .begin) l) ≡ true → true ≡ nextFormed work l
+  unfolding openFormed
+  formed-save! work v = sym (formed-open work ∙ pick-true _ _ _ (sym (e .bears) ∙ v))
+
+module _ (work : List ℕ) {l : List ℕ} {w : Walk} (s : Stands l w) (x : Step) (next : nextStep l w ≡ x) where
+  pub next-target : (q : ℕ) → targetOf x ≡ some q → q < 64
+  next-target = target-small x (step-keeps s x next)
+
+  -- another unit
+  pub formed-step : (r : Bool) → r ≡ formedAt (targetOf x) work → r ≡ nextFormed work l
+  unfolding nextFormed openFormed firstFormed given
+  formed-step r e = e ∙ sym (rw (s .read, s .opened) (pick-false _ _ _ (s .plain) ∙ rw (todo-is s x next)))
 
 module _ (used forced : ℕ) (work log : List ℕ) where
   abbrev d : Lent
@@ -230,45 +256,44 @@ module _ {used forced : ℕ} {work log : List ℕ} {t : Scan} (p : Past used for
         unit = p .unit;
       }
 
-  pub past-stands : Stands log (t .walk)
-  past-stands = stands log (t .walk) (p .log-bytes) past-opened
+  pub past-ends : Ends log (t .walk)
+  past-ends = ends log (t .walk) (p .log-bytes) past-opened
 
-  same-log : knew .log ≡ past-stands .log
-  same-log = Option·some-injective _ _ (sym reads ∙ past-stands .read)
+  same-log : knew .log ≡ past-ends .log
+  same-log = Option·some-injective _ _ (sym reads ∙ past-ends .read)
 
-  module _ (x : Step) (next : nextStep log (t .walk) ≡ x) where
-    pub past-target : (q : ℕ) → targetOf x ≡ some q → q < 64
-    past-target = target-small x (step-keeps past-stands x next)
+  goes : step (lent used forced work [] log []) ≡ stepped (lent used forced work [] log []) (need (nextFormed work log) (stopped 3) (appendNext work log))
+  goes =
+      let d : Lent = lent used forced work [] log [] in
+      step-goes-on d (two-sized d (p .whole) (p .long)) (past-ends .log) (knew .is ∙ ap some same-log) (past-ends .unit) (past-ends .opened)
+      ∙ ap (stepped d)
+      (with-open (past-ends .unit) (atEnd (past-ends .log)) work log
+      ∙ ap (λ (o : Went). need (openFormed (past-ends .unit) work) (stopped 3) o) (sym (next-open past-ends work))
+      ∙ ap (λ (b : Bool). need b (stopped 3) (appendNext work log)) (sym (formed-open past-ends work)))
 
-    goes : step (lent used forced work [] log []) ≡ stepped (lent used forced work [] log []) (need (formedAt (targetOf x) work) (stopped 3) (appendNext work log))
-    goes =
+  module _ (z : Bool) (e : z ≡ nextFormed work log) where
+    pub step-no-page : not z ≡ true → (v u f : ℕ) → (v ≡ 3) × (u ≡ used) × (f ≡ forced)
+        → left v [] (lent u f work [] log []) ≡ step (lent used forced work [] log [])
+    unfolding stepped
+    step-no-page h v u f s =
         let d : Lent = lent used forced work [] log [] in
-        step-goes-on d (two-sized d (p .whole) (p .long)) (past-stands .log) (knew .is ∙ ap some same-log) (past-stands .unit) (past-stands .opened)
-        ∙ ap (stepped d) (with-first x (past-stands .next .others) _ _ work log _ (todo-is past-stands x next) (sym (next-append work past-stands x next)))
+        refused-as d 3 v u f (step d) (goes ∙ ap (stepped d) (need-false _ (stopped 3) _ (sym e ∙ not-true z h))) s
 
-    module _ (z : Bool) (e : z ≡ formedAt (targetOf x) work) where
-      pub step-no-page : not z ≡ true → (v u f : ℕ) → (v ≡ 3) × (u ≡ used) × (f ≡ forced)
-          → left v [] (lent u f work [] log []) ≡ step (lent used forced work [] log [])
+    module _ (h : not z ≡ false) where
+      made : step (lent used forced work [] log []) ≡ stepped (lent used forced work [] log []) (appendNext work log)
+      made = goes ∙ ap (stepped (lent used forced work [] log [])) (need-true _ (stopped 3) _ (sym e ∙ not-false z h))
+
+      -- a reply of the unit's tests
+      pub step-stops : (r : ℕ) (w′ l′ : List ℕ) → Goes (appendNext work log) work log r w′ l′ → (r ≡ 0 → ⊥) → (v u f : ℕ)
+          → (v ≡ r) × (u ≡ used) × (f ≡ forced) → left v [] (lent u f w′ [] l′ []) ≡ step (lent used forced work [] log [])
       unfolding stepped
-      step-no-page h v u f s =
+      step-stops r w′ l′ g i v u f s =
           let d : Lent = lent used forced work [] log [] in
-          refused-as d 3 v u f (step d) (goes ∙ ap (stepped d) (need-false _ (stopped 3) _ (sym e ∙ not-true z h))) s
+          let q = stopped-by (appendNext work log) work log r w′ l′ g i in
+          rw (q .1, q .2) (refused-as d r v u f (step d) (made ∙ ap (stepped d) (q .0)) s)
 
-      module _ (h : not z ≡ false) where
-        made : step (lent used forced work [] log []) ≡ stepped (lent used forced work [] log []) (appendNext work log)
-        made = goes ∙ ap (stepped (lent used forced work [] log [])) (need-true _ (stopped 3) _ (sym e ∙ not-false z h))
-
-        -- a reply of tests 5, 6 and 7
-        pub step-stops : (r : ℕ) (w′ l′ : List ℕ) → Goes (appendNext work log) work log r w′ l′ → (r ≡ 0 → ⊥) → (v u f : ℕ)
-            → (v ≡ r) × (u ≡ used) × (f ≡ forced) → left v [] (lent u f w′ [] l′ []) ≡ step (lent used forced work [] log [])
-        unfolding stepped
-        step-stops r w′ l′ g i v u f s =
-            let d : Lent = lent used forced work [] log [] in
-            let q = stopped-by (appendNext work log) work log r w′ l′ g i in
-            rw (q .1, q .2) (refused-as d r v u f (step d) (made ∙ ap (stepped d) (q .0)) s)
-
-        -- the step was made: used is the log's end after it
-        pub step-steps : (w′ l′ : List ℕ) (c : Stepped work log (t .walk) w′ l′) (y : Walk) → y ≡ turned l′ (t .walk)
-            → left 0 [] (lent (y .at) forced w′ [] l′ []) ≡ step (lent used forced work [] log [])
-        unfolding stepped
-        step-steps w′ l′ c y q = rw (end-is c y q) (sym (made ∙ ap (stepped (lent used forced work [] log [])) (c .is)))
+      -- the step was made: used is the log's end after it
+      pub step-steps : (w′ l′ : List ℕ) (c : Stepped work log (t .walk) w′ l′) (y : Walk) → y ≡ turned l′ (t .walk)
+          → left 0 [] (lent (y .at) forced w′ [] l′ []) ≡ step (lent used forced work [] log [])
+      unfolding stepped
+      step-steps w′ l′ c y q = rw (end-is c y q) (sym (made ∙ ap (stepped (lent used forced work [] log [])) (c .is)))

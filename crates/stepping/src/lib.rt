@@ -8,8 +8,12 @@ ghost use Rattle.page.specs.Page.{formed};
 ghost use Rattle.page.specs.Pages.{page};
 ghost use Rattle.log.specs.Steps.{stepOf};
 ghost use Rattle.unit.specs.Next.{targetOf};
+ghost use Rattle.forward.specs.Appends.{Opened};
 ghost use Rattle.store.specs.Calls.{lent, left, formedAt, step};
+ghost use Rattle.stepping.specs.Formed.{nextFormed};
 use field::PageNo;
+use log::opening;
+use log::scan::Walk;
 use log::steps;
 use log::steps::Planned;
 use page::form;
@@ -48,7 +52,19 @@ fn target_formed(work: &[u8], x: Planned) -> bool
     }
 }
 
-// The next step of the open unit: its record is appended to the log, and its page change made.
+// Test 3 of the open unit's next record: the page that it changes, if the unit tidies. A put or delete tests all pages as it is worked out.
+fn next_formed(work: &[u8], log: &[u8], w: Walk) -> bool
+    requires { ⌜ (length (now work) ≡ 16384) × Opened (now log) w ⌝ }
+    ensures { λ r. ⌜ r ≡ nextFormed (now (work .entry)) (now (log .entry)) ⌝ }
+{
+    let begin = w.begin;
+    if opening::saves(&log[begin..]) {
+        return true;
+    }
+    target_formed(work, steps::step_at(&log[begin..], w.unit, w.done))
+}
+
+// The next record of the open unit, appended to the log, and its page changes made.
 pub fn step(n: Numbers, work: &mut [u8], log: &mut [u8]) -> Answer
     ensures stepped { λ r. ⌜ left (r .reply) [] (lent (r .numbers .used) (r .numbers .forced) (now (work .exit)) [] (now (log .exit)) [])
         ≡ step (lent (n .used) (n .forced) (now (work .entry)) [] (now (log .entry)) []) ⌝ }
@@ -67,8 +83,7 @@ pub fn step(n: Numbers, work: &mut [u8], log: &mut [u8]) -> Answer
     if !w.opened {
         return known::kept(n, 10);
     }
-    let begin = w.begin;
-    if !target_formed(work, steps::step_at(&log[begin..], w.unit, w.done)) {
+    if !next_formed(work, log, w) {
         return known::kept(n, 3);
     }
     let reply = forward::append(work, log, w);

@@ -5,3 +5,4 @@ pub mod Passed
 pub mod Replies
 pub mod Ending
 pub mod Anew
+pub mod Chosen

@@ -10,7 +10,8 @@ use Rattle.field.proofs.Test.{need-true, need-false}
 use Rattle.log.specs.Record.{Begin}
 use Rattle.log.specs.Log.{State}
 use Rattle.tree.specs.Answer.{Found, missing, found}
-use Rattle.store.specs.Calls.{Lent, Left, refused, zeroed, threeSized, Went, stopped, went, stepped, recovered, answered, begun, beginWith}
+use Rattle.store.specs.Calls.{Lent, Left, refused, zeroed, threeSized, Went, stopped, went, stepped, recovered, answered, begunWith, begun, beginWith, savingAll, beginSave, beginPut, beginDelete}
+use Rattle.saving.specs.Rest.{Rest, refuses, lacks}
 use Rattle.store.specs.Calls.{build, recover, beginCompact, beginOrder, step, flush, force, checkpoint, find, list}
 
 -- q says what a refusal with a reply leaves; x is what a call leaves, and refuses only so
@@ -80,9 +81,13 @@ pub step-keeps : (d : Lent) → Keeps 0 d (step d)
 unfolding step
 step-keeps d = test 0 d _ 1 _ (value 0 d _ 2 _ (λ g. value 0 d _ 10 _ (λ o. stepped-keeps d _)))
 
+begun-with-keeps : (d : Lent) (s : State) (b : Begin) (long many : ℕ) → Keeps 0 d (begunWith d s b long many)
+unfolding begunWith
+begun-with-keeps d s b long many = test 0 d _ 6 _ (test 0 d _ 7 _ (stepped-keeps d _))
+
 begun-keeps : (d : Lent) (s : State) (b : Begin) → Keeps 0 d (begun d s b)
 unfolding begun
-begun-keeps d s b = test 0 d _ 6 _ (test 0 d _ 7 _ (stepped-keeps d _))
+begun-keeps d s b = begun-with-keeps d s b _ _
 
 begin-keeps : (d : Lent) (s : State) (choose : ℕ → List (List ℕ) → Option Begin) → Keeps 0 d (beginWith d s choose)
 unfolding beginWith
@@ -95,6 +100,23 @@ begin-compact-keeps fill d = test 0 d _ 1 _ (value 0 d _ 2 _ (λ g. test 0 d _ 1
 pub begin-order-keeps : (d : Lent) → Keeps 0 d (beginOrder d)
 unfolding beginOrder
 begin-order-keeps d = test 0 d _ 1 _ (value 0 d _ 2 _ (λ g. begin-keeps d _ _))
+
+saving-keeps : (d : Lent) (s : State) (b : Begin) (x : Rest) → Keeps 0 d (savingAll d s b x)
+unfolding savingAll
+saving-keeps d s b (refuses r) = refusal 0 d r
+saving-keeps d s b (lacks rs) = begun-with-keeps d s b _ _
+
+save-keeps : (d : Lent) (s : State) (b : Begin) → Keeps 0 d (beginSave d s b)
+unfolding beginSave
+save-keeps d s b = test 0 d _ 9 _ (saving-keeps d s b _)
+
+pub begin-put-keeps : (d : Lent) → Keeps 0 d (beginPut d)
+unfolding beginPut
+begin-put-keeps d = test 0 d _ 1 _ (value 0 d _ 2 _ (λ g. test 0 d _ 12 _ (test 0 d _ 16 _ (save-keeps d _ _))))
+
+pub begin-delete-keeps : (key : ℕ) (d : Lent) → Keeps 0 d (beginDelete key d)
+unfolding beginDelete
+begin-delete-keeps key d = test 0 d _ 1 _ (value 0 d _ 2 _ (λ g. save-keeps d _ _))
 
 pub flush-keeps : (p : ℕ) (d : Lent) → Keeps 0 d (flush p d)
 unfolding flush

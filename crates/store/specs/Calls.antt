@@ -1,16 +1,17 @@
--- The ten calls of document 01: each a function from what it is lent and its arguments to what it leaves, so that its value depends on
--- nothing else. The tests stand in the order of the table "Order of tests", each with the reply that it gives. Assumes nothing.
+-- The ten calls of document 01, and put and delete of document 02, no. 1: each a function from what it is lent and its arguments to what it
+-- leaves, so that its value depends on nothing else. The tests stand in the order of the table "Order of tests", each with the reply that it gives. Assumes nothing.
 use Prim.Native.Nat.{ℕ, _+_, _-_, _%_, _/_}
 use mathlib.Core.Bool.{Bool, true, false, not}
 use mathlib.Core.List.{List, [], _∷_, _++_}
 use mathlib.Core.Option.{Option, some, none}
-use lib.ListN.{length}
+use lib.ListN.{length, take}
 use lib.Dec.{eqb, leb, ltb}
 use Rattle.field.specs.Test.{both, all, pick, need, given, when, bind, there}
-use Rattle.field.specs.Bytes.{put, zeroes, same, most4}
+use Rattle.field.specs.Bytes.{put, zeroes, bytes4, same, most4}
 use Rattle.page.specs.Page.{rowsOf, ascendRecords, number, basePages, leafPages, formed}
 use Rattle.page.specs.Pages.{page, putPage, pages, allFormed}
-use Rattle.log.specs.Record.{Check, Begin, Rec, LB, size, encodeCheck, encode}
+use Rattle.log.specs.Record.{Check, Begin, saves, Rec, LB, size, sizes, encodeCheck, encode}
+use Rattle.log.specs.Write.{saveOf}
 use Rattle.log.specs.Plan.{Step, plan}
 use Rattle.log.specs.Log.{Open, State, after, Log, readLog, atEnd, lastForced}
 use Rattle.tree.specs.Tree.{wellFormed}
@@ -18,6 +19,7 @@ use Rattle.tree.specs.Answer.{Found, missing, found, lookUp, inBounds, written,
 use Rattle.tree.specs.Layout.{leafGroups, baseGroups, layout}
 use Rattle.unit.specs.Choice.{compactUnit, orderUnit}
 use Rattle.unit.specs.Next.{apply, repeatAll, targetOf, pageOf, nextRec, room}
+use Rattle.saving.specs.Rest.{Rest, refuses, lacks, restOf}
 
 -- ---- what is lent and what is left
 
@@ -123,6 +125,29 @@ append x xs s w l =
     (need (leb (s .number + 1) most4) (stopped 7)
     (logged s r w′ l))))
 
+-- records appended one after the other, each with its page changes
+unfoldable pub appendAll : (rs : List Rec) → (s : State) (w l : List ℕ) → Went
+appendAll [] s w l = went s w l
+appendAll (r ∷ rs) s w l =
+    given (apply (s .number + 1) r w) (stopped 5) (λ w′. andThen (logged s r w′ l) (appendAll rs))
+
+-- the first k of the records that the open unit lacks: tests 6 and 7, for all of them
+unfoldable pub conclude : (k : ℕ) → Rest → (s : State) (w l : List ℕ) → Went
+conclude k (refuses reply) s w l = stopped reply
+conclude k (lacks rs) s w l =
+    need (leb (s .at + sizes rs) logLength) (stopped 6)
+    (need (leb (s .number + length rs) most4) (stopped 7)
+    (appendAll (take k rs) s w l))
+
+-- how many they are
+unfoldable pub restLong : Rest → ℕ
+restLong (refuses reply) = 0
+restLong (lacks rs) = length rs
+
+-- what an open put or delete lacks; its LB stands before the records since
+unfoldable pub lackedBy : Open → (s : State) (w : List ℕ) → Rest
+lackedBy o s w = restOf (o .start) (s .number - length (o .did)) (o .did) w
+
 -- reply 3 of a step: the changed page
 unfoldable pub formedAt : Option ℕ → (w : List ℕ) → Bool
 formedAt none w = true
@@ -133,6 +158,10 @@ unfoldable pub stepWith : (todo : List Step) → (s : State) (w l : List ℕ) �
 stepWith [] s w l = stopped 10
 stepWith (x ∷ xs) s w l = need (formedAt (targetOf x) w) (stopped 3) (append x xs s w l)
 
+-- a put's or delete's step appends the first record that it lacks
+unfoldable pub stepOpen : Open → (s : State) (w l : List ℕ) → Went
+stepOpen o s w l = pick (saves (o .start)) (conclude 1 (lackedBy o s w) s w l) (stepWith (o .todo) s w l)
+
 unfoldable pub stepped : Lent → Went → Left
 stepped d (stopped r) = refused 0 r d
 stepped d (went s w l) = left 0 [] (lent (s .at) (d .forced) w (d .store) l (d .bytes))
@@ -142,7 +171,7 @@ step d =
     need (twoSized d) (refused 0 1 d)
     (given (known d) (refused 0 2 d) (λ g.
     given (atEnd g .opened) (refused 0 10 d) (λ o.
-    stepped d (stepWith (o .todo) (atEnd g) (d .work) (d .log)))))
+    stepped d (stepOpen o (atEnd g) (d .work) (d .log)))))
 
 -- ---- recovery
 
@@ -160,6 +189,13 @@ unfoldable pub finish : (todo : List Step) → (s : State) (w l : List ℕ) → 
 finish [] s w l = went s w l
 finish (x ∷ xs) s w l = andThen (append x xs s w l) (finish xs)
 
+-- a put or delete appends all that it lacks; an LG changes no page, so each of its steps would find the same pages and the same records
+unfoldable pub finishOpen : Option Open → (s : State) (w l : List ℕ) → Went
+finishOpen none s w l = went s w l
+finishOpen (some o) s w l =
+    let rest : Rest = lackedBy o s w in
+    pick (saves (o .start)) (conclude (restLong rest) rest s w l) (finish (o .todo) s w l)
+
 -- "It forces the log as found and sets forced to that end, used to the end after finishing, and returns the count of records appended";
 -- s is the log's end as found
 unfoldable pub recovered : Lent → (s : State) → Went → Left
@@ -175,16 +211,20 @@ recover d =
     need (allFormed 0 (pages (d .store))) (zeroed 3 d)
     (need (noneNewer (atEnd g .number) (pages (d .store))) (zeroed 4 d)
     (given (repeatAll (g .top .number + 1) (g .recs) (d .store)) (zeroed 5 d) (λ w.
-    recovered d (atEnd g) (finish (todoOf (atEnd g .opened)) (atEnd g) w (d .log)))))))
+    recovered d (atEnd g) (finishOpen (atEnd g .opened) (atEnd g) w (d .log)))))))
 
 -- ---- begin
 
--- "Begin is the unit's first step, the LB": tests 6 and 7, for the whole unit; it changes no page
-unfoldable pub begun : Lent → (s : State) → Begin → Left
-begun d s b =
-    need (leb (s .at + (size (LB b) + room (d .work) (plan b))) logLength) (refused 0 6 d)
-    (need (both (leb (s .number + (1 + length (plan b))) most4) (leb (b .unit) most4)) (refused 0 7 d)
+-- "Begin is the unit's first step, the LB": tests 6 and 7, for the whole unit, of which `many` records of `long` bytes follow the LB; it changes
+-- no page
+unfoldable pub begunWith : Lent → (s : State) → Begin → (long many : ℕ) → Left
+begunWith d s b long many =
+    need (leb (s .at + (size (LB b) + long)) logLength) (refused 0 6 d)
+    (need (both (leb (s .number + (1 + many)) most4) (leb (b .unit) most4)) (refused 0 7 d)
     (stepped d (logged s (LB b) (d .work) (d .log))))
+
+unfoldable pub begun : Lent → (s : State) → Begin → Left
+begun d s b = begunWith d s b (room (d .work) (plan b)) (length (plan b))
 
 -- what both have in common: tests 9, 3, 8, 11, then 6 and 7. The unit is chosen for this unit number, over these pages
 unfoldable pub beginWith : Lent → (s : State) → (choose : (unit : ℕ) → List (List ℕ) → Option Begin) → Left
@@ -206,6 +246,36 @@ beginOrder d =
     need (twoSized d) (refused 0 1 d)
     (given (known d) (refused 0 2 d) (λ g.
     beginWith d (atEnd g) orderUnit))
+
+-- ---- put, delete
+
+-- "delete: value zero"
+unfoldable pub deleting : (key : ℕ) → List ℕ
+deleting key = 114 ∷ 99 ∷ (bytes4 key ++ zeroes 10)
+
+-- the whole unit's room and numbers, once its pages are worked out
+unfoldable pub savingAll : Lent → (s : State) → Begin → Rest → Left
+savingAll d s b (refuses reply) = refused 0 reply d
+savingAll d s b (lacks rs) = begunWith d s b (sizes rs) (length rs)
+
+-- tests 9, 3, 8, 18 or 15, 6 and 7
+unfoldable pub beginSave : Lent → (s : State) → Begin → Left
+beginSave d s b = need (not (there (s .opened))) (refused 0 9 d) (savingAll d s b (restOf b (s .number + 1) [] (d .work)))
+
+-- the record is the lent bytes
+unfoldable pub beginPut : Lent → Left
+beginPut d =
+    need (twoSized d) (refused 0 1 d)
+    (given (known d) (refused 0 2 d) (λ g.
+    need (eqb (length (d .bytes)) 16) (refused 0 12 d)
+    (need (ascendRecords 0 (d .bytes ∷ [])) (refused 0 16 d)
+    (beginSave d (atEnd g) (saveOf (atEnd g .unit + 1) 4 (d .bytes))))))
+
+unfoldable pub beginDelete : (key : ℕ) → Lent → Left
+beginDelete key d =
+    need (twoSized d) (refused 0 1 d)
+    (given (known d) (refused 0 2 d) (λ g.
+    beginSave d (atEnd g) (saveOf (atEnd g .unit + 1) 5 (deleting key))))
 
 -- ---- flush, force, checkpoint
 

@@ -1,19 +1,19 @@
 -- The begin records of the units are in form, and none of their steps takes out a page that was changed before. Assumes nothing.
-use Prim.Native.Nat.{ℕ, suc, _≤_}
+use Prim.Native.Nat.{ℕ, suc, _≤_, _<_}
 use native.Mathlib.Omega.{arith}
 use mathlib.Core.Path.{_≡_, refl, sym, ap, _∙_}
 use mathlib.Core.Logic.{_≢_, _⊎_, ⊎-elim}
 use mathlib.Core.Bool.{Bool, true, false, not}
 use mathlib.Core.List.{List, [], _∷_, _++_}
-use borrow.Author.Tests.{eqb-true, eqb-false, eq-eqb, ne-eqb, le-leb}
-use lib.Dec.{eqb}
+use borrow.Author.Tests.{eqb-true, eqb-false, eq-eqb, ne-eqb, le-leb, lt-leb}
+use lib.Dec.{eqb, leb}
 use lib.ListN.{length, getD, length-map}
 use Rattle.field.specs.Test.{both, pick}
 use Rattle.field.specs.Bytes.{most4}
 use Rattle.field.proofs.Test.{both-intro, all-intro, all-nil, pick-true, pick-false, pick-second}
 use Rattle.page.specs.Page.{firstBase, lastBase, firstLeaf, lastLeaf}
 use Rattle.page.specs.Places.{Basic, Leafy}
-use Rattle.log.specs.Record.{Begin}
+use Rattle.log.specs.Record.{Begin, saves}
 use Rattle.log.specs.Plan.{Step, takeOut, bringIn, point, close, gather, removals, compactPlan, movePlan, swapPlan}
 use Rattle.log.specs.Log.{within, onBases, onLeaves, listed, differ, compactOk, swapOk, moveOk, typeOk, beginOk}
 use Rattle.unit.specs.Choice.{oneOrTwo}
@@ -79,28 +79,35 @@ differ-two p q d = rw (ne-eqb p q d)
 
 -- a compact
 abbrev pub compactBegin : (u fill b : ℕ) (leaves : List ℕ) (d : ℕ) → Begin
-compactBegin u fill b leaves d = record { unit = u; type = 1; fill = fill; bases = b ∷ []; leaves = leaves; dest = d }
+compactBegin u fill b leaves d = record { unit = u; type = 1; fill = fill; bases = b ∷ []; leaves = leaves; dest = d; saved = [] }
 
 -- a move
 abbrev pub moveBegin : (u b a d : ℕ) → Begin
-moveBegin u b a d = record { unit = u; type = 3; fill = 0; bases = b ∷ []; leaves = a ∷ []; dest = d }
+moveBegin u b a d = record { unit = u; type = 3; fill = 0; bases = b ∷ []; leaves = a ∷ []; dest = d; saved = [] }
 
 -- a swap
 abbrev pub swapBegin : (u p q a b : ℕ) → Begin
-swapBegin u p q a b = record { unit = u; type = 2; fill = 0; bases = oneOrTwo p q; leaves = a ∷ b ∷ []; dest = 0 }
+swapBegin u p q a b = record { unit = u; type = 2; fill = 0; bases = oneOrTwo p q; leaves = a ∷ b ∷ []; dest = 0; saved = [] }
 
 -- by type
 ok-of : (g : Begin) → g .unit ≤ most4 → typeOk g ≡ true → onBases (g .bases) ≡ true → differ (g .bases) ≡ true → onLeaves (g .leaves) ≡ true
-    → differ (g .leaves) ≡ true → beginOk g ≡ true
+    → differ (g .leaves) ≡ true → eqb (length (g .saved)) (pick (saves g) 1 0) ≡ true → beginOk g ≡ true
 unfolding beginOk
-ok-of g u t b c l d =
-    all-intro _ _ (le-leb (g .unit) most4 u) (all-intro _ _ t (all-intro _ _ b (all-intro _ _ c (all-intro _ _ l (all-intro _ _ d all-nil)))))
+ok-of g u t b c l d s =
+    all-intro _ _ (le-leb (g .unit) most4 u) (all-intro _ _ t (all-intro _ _ b (all-intro _ _ c (all-intro _ _ l (all-intro _ _ d (all-intro _ _ s all-nil))))))
+
+-- compacts, moves and swaps carry no record
+pub plain : (k : ℕ) → k < 4 → leb 4 k ≡ false
+plain k h = lt-leb 4 k h
+
+none-carried : (k : ℕ) → k < 4 → eqb 0 (pick (leb 4 k) 1 0) ≡ true
+none-carried k h = rw (plain k h) (unfold pick in eq-eqb 0 0 refl)
 
 -- a compact's begin record is in form
 pub compact-ok : (u fill b : ℕ) (x : Entry) (ds : List Entry) (d : ℕ) → u ≤ most4 → 1 ≤ fill → fill ≤ 15 → Basic b
     → All (λ e. Leafy (e .page)) (x ∷ ds) → ((p : ℕ) → pointers p (x ∷ ds) ≤ 1) → 1 ≤ length ds → length ds ≤ 7 → Leafy d
     → (d ≡ x .page) ⊎ (listed d (pagesOf (x ∷ ds)) ≡ false) → beginOk (compactBegin u fill b (pagesOf (x ∷ ds)) d) ≡ true
-unfolding typeOk compactOk
+unfolding typeOk compactOk saves
 compact-ok u fill b x ds d hu f1 f15 hb hl once l1 l7 hd side =
     let n : length (pagesOf ds) ≡ length ds = length-map ds (λ (e : Entry). e .page) in
     let t : pick (eqb d (x .page)) true (not (listed d (pagesOf (x ∷ ds)))) ≡ true = ⊎-elim
@@ -115,22 +122,23 @@ compact-ok u fill b x ds d hu f1 f15 hb hl once l1 l7 hd side =
     (all-intro _ _ (le-leb 1 fill f1)
     (all-intro _ _ (le-leb fill 15 f15)
     (all-intro _ _ (leaf-alone d hd) (all-intro _ _ t all-nil)))))))
-    (base-alone b hb) (differ-one b) (within-pages (x ∷ ds) hl) (differ-pages (x ∷ ds) once)
+    (base-alone b hb) (differ-one b) (within-pages (x ∷ ds) hl) (differ-pages (x ∷ ds) once) (none-carried 1 (omega arith))
 
 -- a move's
 pub move-ok : (u b a d : ℕ) → u ≤ most4 → Basic b → Leafy a → Leafy d → d ≢ a → beginOk (moveBegin u b a d) ≡ true
-unfolding typeOk moveOk listed
+unfolding typeOk moveOk listed saves
 move-ok u b a d hu hb ha hd n =
     ok-of (moveBegin u b a d) hu
     (pick-false (eqb 3 1) _ _ (ne-eqb 3 1 (λ z. omega arith))
     ∙ pick-false (eqb 3 2) _ _ (ne-eqb 3 2 (λ z. omega arith))
+    ∙ pick-false _ _ _ (plain 3 (omega arith))
     ∙ both-intro _ _ (eq-eqb 3 3 refl)
     (all-intro _ _ (eq-eqb 1 1 refl)
     (all-intro _ _ (eq-eqb 1 1 refl)
     (all-intro _ _ (eq-eqb 0 0 refl)
     (all-intro _ _ (leaf-alone d hd)
     (all-intro _ _ (ap not (pick-false (eqb d a) true false (ne-eqb d a n))) all-nil))))))
-    (base-alone b hb) (differ-one b) (leaf-alone a ha) (differ-one a)
+    (base-alone b hb) (differ-one b) (leaf-alone a ha) (differ-one a) (none-carried 3 (omega arith))
 
 -- one base page or two
 two-bases : (p q : ℕ) → Basic p → Basic q
@@ -151,7 +159,7 @@ two-bases p q hp hq = go (eqb p q) refl
 
 -- a swap's
 pub swap-ok : (u p q a b : ℕ) → u ≤ most4 → Basic p → Basic q → Leafy a → Leafy b → a ≢ b → beginOk (swapBegin u p q a b) ≡ true
-unfolding typeOk swapOk
+unfolding typeOk swapOk saves
 swap-ok u p q a b hu hp hq ha hb n =
     let t = two-bases p q hp hq in
     ok-of (swapBegin u p q a b) hu
@@ -161,7 +169,7 @@ swap-ok u p q a b hu hp hq ha hb n =
     (all-intro _ _ (le-leb (length (oneOrTwo p q)) 2 (t .3))
     (all-intro _ _ (eq-eqb 2 2 refl) (all-intro _ _ (eq-eqb 0 0 refl) (all-intro _ _ (eq-eqb 0 0 refl) all-nil)))))
     (t .0) (t .1)
-    (within-cons firstLeaf lastLeaf a (b ∷ []) (ha .0) (ha .1) (leaf-alone b hb)) (differ-two a b n)
+    (within-cons firstLeaf lastLeaf a (b ∷ []) (ha .0) (ha .1) (leaf-alone b hb)) (differ-two a b n) (none-carried 2 (omega arith))
 
 -- the base pages that the plan of a swap reads off
 pub bases-read : (p q : ℕ) → (getD (oneOrTwo p q) 0 0 ≡ p) × (getD (oneOrTwo p q) 1 p ≡ q)

@@ -7,9 +7,9 @@ use mathlib.Core.List.{List, [], _∷_}
 use lib.ListN.{length}
 use Rattle.page.specs.Pages.{page}
 use Rattle.page.specs.Places.{Leafy}
-use Rattle.log.specs.Record.{Rec, LE, kindOf, carried, size}
+use Rattle.log.specs.Record.{Rec, LE, kindOf, carried, outs, size}
 use Rattle.log.specs.Plan.{Step, takeOut, bringIn, point, close}
-use Rattle.unit.specs.Next.{targets, targetOf, pageOf, nextRec, stepSize}
+use Rattle.unit.specs.Next.{placesOf, targets, targetOf, pageOf, nextRec, stepSize}
 use Rattle.unit.proofs.Places.{StepKeeps, Keeping, one-more}
 use Rattle.unit.proofs.Pagewise.{apply-stays}
 use Rattle.tidy.specs.Tidy.{Carried}
@@ -45,10 +45,10 @@ one-step st c =
     }
 
 -- LE changes no page
-close-step : (n u : ℕ) (did : List Rec) (xs : List Step) (w : List ℕ) (s : State) → Shows w s → Stepped n did (close u) xs w (LE u) s
-unfolding nextRec targetOf pageOf stepSize size kindOf carried targets
+close-step : (n u : ℕ) (did : List Rec) (xs : List Step) (w : List ℕ) (s : State) → Shows w s → Stepped n did (close u) xs w (LE u []) s
+unfolding nextRec targetOf pageOf stepSize size kindOf carried targets placesOf
 close-step n u did xs w s sh =
-    record { now = w; form = tt; next = refl; applied = apply-stays n (LE u) w refl; counted = refl; left = refl; shows = sh; top = refl }
+    record { now = w; form = tt; next = refl; applied = apply-stays n (LE u []) w refl; counted = refl; left = refl; shows = sh; top = refl }
 
 -- the page that an LM points to is no 0
 leaf-to : (new : ℕ) → 1 ≤ new → (new ≡ 0) ⊎ Leafy new → Leafy new
@@ -65,7 +65,7 @@ keeping-2 (one-more h k) = k
 -- by the steps of the run
 pub carry : {did : List Rec} {todo : List Step} {s s′ : State} {rs : List Rec} → Run did todo s s′ rs → (n : ℕ) (w : List ℕ) → Shows w s → AllMoved did
     → Keeping todo → Apart todo → n + length todo ≤ 4294967296 → Carries n did todo w rs s′
-unfolding carried
+unfolding outs
 carry Run.done n w sh am k a few = record { after = w; carried-out = Carried.done; shows = sh; top = refl }
 carry (Run.takes {did = did} {p = p} {d = d} {xs = xs} {l = l} {b = b} f run) n w sh am k a few =
     let st = out-step n did xs w l b sh (omega arith) p d (keeping-1 k) (a .0) f in

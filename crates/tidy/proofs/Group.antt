@@ -107,6 +107,7 @@ module _ (w : List ℕ) (tidy : Tidy w) (u fill : ℕ) (g : Begin) (c : Compacte
         bases = p .leaf i .base ∷ [];
         leaves = listed-pages i;
         dest = lowestEmpty (c .low) (p .leaf i .at) 0 (pages w);
+        saved = [];
       })
 
   -- at least one joins

@@ -4,7 +4,7 @@ use Prim.Native.Nat.{ℕ, zero, suc, _+_, _≤_, _<_}
 use native.Mathlib.Omega.{arith}
 use mathlib.Core.Path.{_≡_, refl, sym, ap, ap₂, _∙_, subst}
 use mathlib.Core.Logic.{_≢_, ⊎-elim}
-use mathlib.Core.Bool.{true}
+use mathlib.Core.Bool.{true, false}
 use mathlib.Core.List.{List, [], _∷_}
 use borrow.Author.Tests.{eq-eqb}
 use lib.ListN.{length}
@@ -14,7 +14,7 @@ use Rattle.page.specs.Page.{count, rows, rowsOf, entries, records, firstBase, l
 use Rattle.page.specs.Pages.{page}
 use Rattle.page.specs.Places.{Basic, Leafy, emptyLeaf}
 use Rattle.page.proofs.Places.{empty-leaf, empty-leaf-in}
-use Rattle.log.specs.Record.{Begin}
+use Rattle.log.specs.Record.{Begin, saves}
 use Rattle.log.specs.Plan.{plan}
 use Rattle.log.specs.Log.{beginOk}
 use Rattle.unit.proofs.Places.{plan-keeps}
@@ -127,8 +127,8 @@ module _ (w : List ℕ) (tidy : Tidy w) where
   -- ---- a unit that runs over the tree is carried out, and the pages are tidy after it
 
   -- given that its begin record is in form
-  pub finish : (n : ℕ) (g : Begin) → beginOk g ≡ true → Apart (plan g) → n + length (plan g) ≤ 4294967296 → Kept (rootOf w) (plan g) (stateOf w) → Keeps n g w
-  finish n g ok apart few kept =
+  pub finish : (n : ℕ) (g : Begin) → beginOk g ≡ true → saves g ≡ false → Apart (plan g) → n + length (plan g) ≤ 4294967296 → Kept (rootOf w) (plan g) (stateOf w) → Keeps n g w
+  finish n g ok plain apart few kept =
       let shows : Shows w (stateOf w) = record { sound = sound; leaves = λ p. refl; bases = λ p. refl } in
       let run = kept .runs [] in
       let c = carry (run .1) n w shows tt (plan-keeps g ok) apart few in
@@ -142,6 +142,7 @@ module _ (w : List ℕ) (tidy : Tidy w) where
       sym (ap₂ (λ (r : List Entry) (s : State). contents r s) same-root same-state) ∙ kept .same in
       record {
         ok = ok;
+        plain = plain;
         after = v;
         recs = run .0;
         carried = c .carried-out;

@@ -3,6 +3,7 @@
 use Prim.Native.Nat.{ℕ, suc, _+_, _≤_}
 use native.Mathlib.Omega.{arith}
 use mathlib.Core.Path.{_≡_, refl, sym, ap, _∙_, subst}
+use mathlib.Core.Bool.{false}
 use mathlib.Core.List.{List, [], _∷_}
 use mathlib.Core.Option.{Option, some, none, Option·some-injective}
 use lib.ListN.{length, drop}
@@ -10,9 +11,12 @@ use Rattle.field.specs.Test.{bind}
 use Rattle.field.specs.Bytes.{Bytes, most4}
 use Rattle.field.proofs.Byte.{bytes-nil}
 use Rattle.page.proofs.Pages.{bytes-page}
-use Rattle.log.specs.Record.{Begin, Rec, LB, size}
+use Rattle.log.specs.Record.{Begin, saves, Rec, LB, size}
+use Rattle.page.specs.Each.{Each}
 use Rattle.log.specs.Plan.{Step, close, plan}
 use Rattle.log.specs.Log.{Open, State, going, openedBy, after, afterAll}
+use Rattle.log.proofs.Begin.{begin-none}
+use Rattle.log.proofs.Valid.{does-bears}
 use Rattle.log.proofs.Plan.{Works, works-out, works-in, works-point, Ending, last, more, plan-ending}
 use Rattle.log.specs.Valid.{Does, does-out, does-in, does-point, does-close, Follows, begins, goes, Fits, Valid, nil, cons}
 use Rattle.unit.specs.Next.{apply, targetOf, pageOf, nextRec, stepSize, room}
@@ -43,25 +47,25 @@ pub record Logged (s : State) (rs : List Rec) : Type 0 where
   pub shut : afterAll s rs .opened ≡ none
 
 -- the next record fits
-fits : (s : State) (o : Open) (x : Step) (xs : List Step) (r : Rec) → s .opened ≡ some o → o .todo ≡ x ∷ xs → Does (o .did) x r → s .number + 1 ≤ most4
+fits : (s : State) (o : Open) (x : Step) (xs : List Step) (r : Rec) → s .opened ≡ some o → saves (o .start) ≡ false → o .todo ≡ x ∷ xs → Does (o .did) x r → s .number + 1 ≤ most4
     → Fits s r
-fits s o x xs r e t d h = record { room = h; follows = subst (λ (z : Option Open). Follows (s .unit) z r) (sym e) (goes t d) }
+fits s o x xs r e v t d h = record { room = h; follows = subst (λ (z : Option Open). Follows (s .unit) z r) (sym e) (goes v t d); bears = does-bears _ d }
 
 -- by the steps, of which the last and no other ends the unit
 pub logged : {u n : ℕ} {did : List Rec} {todo : List Step} {w w′ : List ℕ} {rs : List Rec} → Ending u todo → Carried n did todo w w′ rs
-    → (s : State) (o : Open) → s .opened ≡ some o → o .did ≡ did → o .todo ≡ todo → s .number + 1 ≡ n → n + length todo ≤ most4 + 1 → Bytes w → Logged s rs
+    → (s : State) (o : Open) → s .opened ≡ some o → saves (o .start) ≡ false → o .did ≡ did → o .todo ≡ todo → s .number + 1 ≡ n → n + length todo ≤ most4 + 1 → Bytes w → Logged s rs
 unfolding after afterAll going
-logged last (step {n = n} {did = did} {x = x} {w = w} {r = r} f next a z q sd done) s o e d t m few b =
+logged last (step {n = n} {did = did} {x = x} {w = w} {r = r} f next a z q sd done) s o e v d t m few b =
     let does : Does (o .did) x r = rw d (next-does x did (pageOf (targetOf x) w) r (target-bytes (targetOf x) w b) next) in
     record {
-      valid = cons (fits s o x [] r e t does (omega arith)) nil;
+      valid = cons (fits s o x [] r e v t does (omega arith)) nil;
       shut = ended (s .opened) does;
     }
-logged (more works end) (step {n = n} {did = did} {x = x} {xs = xs} {w = w} {v = v} {r = r} f next a z q sd c) s o e d t m few b =
+logged (more works end) (step {n = n} {did = did} {x = x} {xs = xs} {w = w} {v = v} {r = r} f next a z q sd c) s o e v′ d t m few b =
     let does : Does (o .did) x r = rw d (next-does x did (pageOf (targetOf x) w) r (target-bytes (targetOf x) w b) next) in
     let open-next : openedBy r (s .opened) ≡ some (going r o) = ap (openedBy r) e ∙ still-open o works does in
-    let rest = logged end c (after s r) (going r o) open-next (ap (λ (l : List Rec). r ∷ l) d) (ap (drop 1) t) (ap (λ (k : ℕ). k + 1) m) (omega arith) (sd .bytes) in
-    record { valid = cons (fits s o x xs r e t does (omega arith)) (rest .valid); shut = rest .shut }
+    let rest = logged end c (after s r) (going r o) open-next v′ (ap (λ (l : List Rec). r ∷ l) d) (ap (drop 1) t) (ap (λ (k : ℕ). k + 1) m) (omega arith) (sd .bytes) in
+    record { valid = cons (fits s o x xs r e v′ t does (omega arith)) (rest .valid); shut = rest .shut }
 
 -- a whole unit, from its begin record on
 pub unit-logged : (w : List ℕ) (n : ℕ) (g : Begin) → Tidy w → (k : Keeps n g w) (s : State) → s .opened ≡ none → g .unit ≡ s .unit + 1 → s .number + 2 ≡ n
@@ -69,9 +73,9 @@ pub unit-logged : (w : List ℕ) (n : ℕ) (g : Begin) → Tidy w → (k : Keeps
 unfolding after afterAll openedBy
 unit-logged w n g tidy k s e u m few =
     let o : Open = record { start = g; did = []; todo = plan g } in
-    let first-fits : Fits s (LB g) = record { room = omega arith; follows = subst (λ (z : Option Open). Follows (s .unit) z (LB g)) (sym e) (begins u (k .ok)) } in
+    let first-fits : Fits s (LB g) = record { room = omega arith; follows = subst (λ (z : Option Open). Follows (s .unit) z (LB g)) (sym e) (begins u (k .ok) (rw (begin-none g (k .ok) (k .plain)) Each.nil) (rw (begin-none g (k .ok) (k .plain)) Each.nil)); bears = tt } in
     let next : s .number + 1 + 1 ≡ n = omega arith in
-    let rest = logged (plan-ending g) (k .carried) (after s (LB g)) o refl refl refl next few (tidy .bytes) in
+    let rest = logged (plan-ending g) (k .carried) (after s (LB g)) o refl (k .plain) refl refl next few (tidy .bytes) in
     record { valid = cons first-fits (rest .valid); shut = rest .shut }
 
 -- ---- where the log ends after them

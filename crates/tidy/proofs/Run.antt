@@ -7,7 +7,7 @@ use mathlib.Core.Option.{none, some}
 use lib.ListN.{length}
 use Rattle.field.specs.Test.{pick}
 use Rattle.page.specs.Page.{keyOf}
-use Rattle.log.specs.Record.{Rec, LO, LI, LM, LE, carried}
+use Rattle.log.specs.Record.{Rec, LO, LI, LM, LE, carried, outs}
 use Rattle.log.specs.Plan.{Step, takeOut, bringIn, point, close}
 use Rattle.log.specs.Log.{taken}
 use Rattle.unit.specs.Next.{skipped}
@@ -29,7 +29,7 @@ pub data Run : (did : List Rec) (todo : List Step) (s s′ : State) (rs : List R
       → lowest (skipped other did) old (b q) ≡ some k → 2 ≤ length (b q)
       → Run (LM q old 0 k ∷ did) xs (state l (upd b q (strip k old (b q)))) s′ rs
       → Run did (point q old 0 other ∷ xs) (state l b) s′ (LM q old 0 k ∷ rs)
-  closes : {did : List Rec} {u : ℕ} {xs : List Step} {s s′ : State} {rs : List Rec} → Run (LE u ∷ did) xs s s′ rs → Run did (close u ∷ xs) s s′ (LE u ∷ rs)
+  closes : {did : List Rec} {u : ℕ} {xs : List Step} {s s′ : State} {rs : List Rec} → Run (LE u [] ∷ did) xs s s′ rs → Run did (close u ∷ xs) s s′ (LE u [] ∷ rs)
 
 -- whatever came before
 abbrev pub Always : (todo : List Step) (s s′ : State) → Type 0
@@ -46,13 +46,13 @@ pub record Kept (root : List Entry) (xs : List Step) (s : State) : Type 0 where
 
 -- LE
 pub close-on : (u : ℕ) (s : State) → Always (close u ∷ []) s s
-close-on u s did = (LE u ∷ [], closes done)
+close-on u s did = (LE u [] ∷ [], closes done)
 
 -- an LO and its LI; v is what the destination then has
 pub pair-on : (p d : ℕ) (xs : List Step) (l : ℕ → List (List ℕ)) (b : ℕ → List Entry) (s′ : State) (v : List (List ℕ)) → 1 ≤ full (l p)
     → upd l p [] d ++ l p ≡ v → length v ≤ 15 → Ascends 0 (map keyOf v) → Always xs (state (upd (upd l p []) d v) b) s′
     → Always (takeOut p d ∷ bringIn p d 1 ∷ xs) (state l b) s′
-unfolding taken carried
+unfolding taken carried outs
 pair-on p d xs l b s′ v f e h a k did =
     let did′ : List Rec = LI p d 1 (l p) ∷ LO p d (l p) ∷ did in
     let k′ : Always xs (state (upd (upd l p []) d (upd l p [] d ++ l p)) b) s′ = subst (λ (x : List (List ℕ)). Always xs (state (upd (upd l p []) d x) b) s′) (sym e) k in

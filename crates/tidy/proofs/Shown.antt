@@ -13,7 +13,7 @@ use Rattle.field.specs.Bytes.{Bytes}
 use Rattle.page.specs.Page.{base, leaf, entries, records, formed}
 use Rattle.page.specs.Pages.{page, putPage}
 use Rattle.page.specs.Places.{Leafy, Basic}
-use Rattle.log.specs.Record.{Rec, carried, size}
+use Rattle.log.specs.Record.{Rec, outs, size}
 use Rattle.log.specs.Plan.{Step, takeOut, bringIn, point, close}
 use Rattle.log.specs.Valid.{Moved}
 use Rattle.unit.specs.Next.{apply, targetOf, pageOf, nextRec, stepSize, room}
@@ -32,7 +32,7 @@ pub record Shows (w : List ℕ) (s : State) : Type 0 where
 -- every LO of these records carries rows that an LI can append
 abbrev pub AllMoved : List Rec → Type 0
 AllMoved [] = Unit {0}
-AllMoved (r ∷ did) = ((carried r ≡ []) ⊎ Moved (carried r)) × AllMoved did
+AllMoved (r ∷ did) = ((outs r ≡ []) ⊎ Moved (outs r)) × AllMoved did
 
 -- page p is taken out by none of these steps
 abbrev pub Clear : ℕ → List Step → Type 0

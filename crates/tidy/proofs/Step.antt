@@ -25,7 +25,7 @@ use Rattle.page.proofs.Made.{Fill}
 use Rattle.page.proofs.Rows.{length-rows}
 use Rattle.page.proofs.Kept.{Changed, bytes-rows, emptied-kept, appended-kept, redirected-kept, removed-kept, bytes-emptied, bytes-appended, bytes-redirected, bytes-removed}
 use Rattle.page.proofs.Pages.{bytes-page}
-use Rattle.log.specs.Record.{out, lengthOf, Rec, LO, LI, LM, LE, kindOf, carried, size}
+use Rattle.log.specs.Record.{out, lengthOf, Rec, LO, LI, LM, LE, kindOf, carried, outs, size}
 use Rattle.log.specs.Plan.{Step, takeOut, bringIn, point}
 use Rattle.log.specs.Log.{taken}
 use Rattle.log.specs.Valid.{Moved}
@@ -64,7 +64,7 @@ module _ (n : ℕ) (did : List Rec) (xs : List Step) (w : List ℕ) (l : ℕ →
   -- an LO
   pub out-step : (p d : ℕ) → Leafy p → Clear p xs → 1 ≤ full (l p)
       → Stepped n did (takeOut p d) xs w (LO p d (l p)) (state (upd l p []) b) × Moved (l p)
-  unfolding nextRec targetOf pageOf stepSize size kindOf carried targets change emptied isEmpty
+  unfolding nextRec targetOf pageOf stepSize size kindOf carried outs targets change emptied isEmpty
   out-step p d h c f =
       let pg : List ℕ = page p w in
       let small : p < 64 = omega (arith, h .1) in
@@ -107,8 +107,8 @@ unfolding isLeaf
 shaped-leaf pg e = e
 
 -- the rows of the LO so far back, if there are any
-taken-moved : (i : ℕ) (did : List Rec) → AllMoved did → (carried (getD did i (LE 0)) ≡ []) ⊎ Moved (carried (getD did i (LE 0)))
-unfolding carried
+taken-moved : (i : ℕ) (did : List Rec) → AllMoved did → (outs (getD did i (LE 0 [])) ≡ []) ⊎ Moved (outs (getD did i (LE 0 [])))
+unfolding outs
 taken-moved i [] h = inl refl
 taken-moved zero (r ∷ did) h = h .0
 taken-moved (suc i) (r ∷ did) h = taken-moved i did (h .1)
@@ -125,14 +125,14 @@ module _ (n : ℕ) (did : List Rec) (xs : List Step) (w : List ℕ) (l : ℕ →
   -- an LI
   pub in-step : (p d back : ℕ) (v : List (List ℕ)) → Leafy d → Clear d xs → AllMoved did → v ≡ taken back did → 1 ≤ full v → length (l d ++ v) ≤ 15
       → Ascends 0 (map keyOf (l d ++ v)) → Stepped n did (bringIn p d back) xs w (LI p d back v) (state (upd l d (l d ++ v)) b)
-  unfolding nextRec targetOf pageOf stepSize size kindOf carried targets change appended taken
+  unfolding nextRec targetOf pageOf stepSize size kindOf carried outs targets change appended taken
   in-step p d back v h c am ev f short up =
       let pg : List ℕ = page d w in
       let small : d < 64 = omega (arith, h .1) in
       let e : l d ≡ records pg = sh .leaves d ∙ leaf-at w d (h .0) in
       let m : Moved v = ⊎-elim
-      (λ (z : carried (getD did (back - 1) (LE 0)) ≡ []). absurd (omega (arith, ap full (ev ∙ z))))
-      (λ (q : Moved (carried (getD did (back - 1) (LE 0)))). rw ev q)
+      (λ (z : outs (getD did (back - 1) (LE 0 [])) ≡ []). absurd (omega (arith, ap full (ev ∙ z))))
+      (λ (q : Moved (outs (getD did (back - 1) (LE 0 [])))). rw ev q)
       (taken-moved (back - 1) did am) in
       let all-marked : Each (λ r. (getD r 0 0 ≡ 114) × (getD r 1 0 ≡ 99)) (records pg ++ v) =
       each-append (marked 114 99 0 (records pg) (leaf-order d h)) (marked 114 99 0 v (m .order)) in
@@ -186,7 +186,7 @@ module _ (n : ℕ) (did : List Rec) (xs : List Step) (w : List ℕ) (l : ℕ →
     -- with the page that the change made
     modified : (new : ℕ) (pg′ : List ℕ) (es : List (List ℕ)) (v : List Entry) → change n (LM q old new k) q (page q w) ≡ some pg′ → Bytes pg′
         → Changed base n es pg′ → isBase pg′ ≡ true → ents es ≡ v → Stepped n did (point q old new other) xs w (LM q old new k) (state l (upd b q v))
-    unfolding nextRec targetOf pageOf stepSize size kindOf carried targets
+    unfolding nextRec targetOf pageOf stepSize size kindOf carried outs targets
     modified new pg′ es v made-so bytes ch ok e =
         let small : q < 64 = omega (arith, h .1) in
         record {

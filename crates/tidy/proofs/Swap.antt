@@ -9,7 +9,7 @@ use borrow.Author.Tests.{eq-eqb, ne-eqb}
 use lib.Dec.{eqb}
 use lib.ListN.{length}
 use Rattle.field.specs.Test.{pick}
-use Rattle.log.specs.Record.{Rec, LO, LI, LM, LE, carried}
+use Rattle.log.specs.Record.{Rec, LO, LI, LM, LE, carried, outs}
 use Rattle.log.specs.Plan.{Step, swapPlan, close}
 use Rattle.log.specs.Log.{taken}
 use Rattle.unit.specs.Next.{skipped, keyBefore}
@@ -228,7 +228,7 @@ module _ (root : List Entry) (s : State) (t : Tree root s) (x y : Entry) (p q : 
 
   -- the six steps, then LE
   swapped : (u : ℕ) → 1 ≤ a → 1 ≤ b → Always (swapPlan p q a b ++ (close u ∷ [])) s end
-  unfolding swapPlan taken carried keyBefore skipped pick
+  unfolding swapPlan taken carried outs keyBefore skipped pick
   swapped u ha hb did =
       let fa : 1 ≤ full (leaf a) = x-full root s t x p xs ys x-in in
       let fb : 1 ≤ full (leaf b) = x-full root s t y q us vs y-in in
@@ -237,8 +237,8 @@ module _ (root : List Entry) (s : State) (t : Tree root s) (x y : Entry) (p q : 
       let d₄ : List Rec = LI a b 3 (leaf a) ∷ LI b a 1 (leaf b) ∷ d₂ in
       let d₅ : List Rec = LM q b a (y .key) ∷ d₄ in
       let d₆ : List Rec = LM p a b (x .key) ∷ d₅ in
-      let last : Run d₆ (close u ∷ []) (state (upd l₃ b (l₃ b ++ leaf a)) (base₂ (s .base) x y p q c)) end (LE u ∷ []) =
-      subst (λ (z : State). Run d₆ (close u ∷ []) z end (LE u ∷ []))
+      let last : Run d₆ (close u ∷ []) (state (upd l₃ b (l₃ b ++ leaf a)) (base₂ (s .base) x y p q c)) end (LE u [] ∷ []) =
+      subst (λ (z : State). Run d₆ (close u ∷ []) z end (LE u [] ∷ []))
       (λ i. state (sym (fun-ext leaf-end) i) (sym (fun-ext (exchanged (s .base) x y p q c)) i)) (Run.closes Run.done) in
       let fifth = points {did = d₄} {q = q} {old = b} {new = a} {other = false} (y .key) ha (first-key root s t y q us vs y-in)
       (points {did = d₅} {q = p} {old = a} {new = b} {other = eqb p q} (x .key) hb (find-second d₅ refl) last) in

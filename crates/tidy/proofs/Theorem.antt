@@ -18,7 +18,7 @@ use Rattle.page.specs.Pages.{page, pages}
 use Rattle.page.specs.Places.{Basic, Leafy, emptyLeaf, place}
 use Rattle.page.proofs.Places.{empty-leaf, empty-leaf-in, place-in}
 use Rattle.page.proofs.Pages.{getD-pages}
-use Rattle.log.specs.Record.{Begin}
+use Rattle.log.specs.Record.{Begin, saves}
 use Rattle.log.specs.Plan.{Step, close, compactPlan, movePlan, swapPlan, plan}
 use Rattle.tree.specs.Tree.{Leaf, leavesOf}
 use Rattle.unit.specs.Choice.{lowestEmpty, compactUnit, moveOf, swapOf, putInOrder, orderUnit, oneOrTwo}
@@ -38,7 +38,7 @@ use Rattle.tidy.proofs.Formed.{stateOf}
 use Rattle.tidy.proofs.Leaves.{leavesAll, Spot, spot, length-leaves, standing-all, Standing, stands, leaves-of}
 use Rattle.tidy.proofs.Chosen.{lowest-empty, Ordered, ordered}
 use Rattle.tidy.proofs.Group.{Grouped, grouped}
-use Rattle.tidy.proofs.Begun.{compactBegin, moveBegin, swapBegin, compact-ok, move-ok, swap-ok, bases-read, listed-none, apart-compact, apart-new, apart-move, apart-swap}
+use Rattle.tidy.proofs.Begun.{compactBegin, moveBegin, swapBegin, compact-ok, move-ok, swap-ok, plain, bases-read, listed-none, apart-compact, apart-new, apart-move, apart-swap}
 use Rattle.tidy.proofs.Known.{sound, tree, root-basic, base-leafy, leaf-short, empty-place, pointed-once, few-leaves, finish}
 
 -- ---- the plans of the begin records
@@ -50,10 +50,10 @@ plan-compact u fill b leaves d = ap (λ (l : List Step). l ++ (close u ∷ [])) 
 
 -- a move
 plan-move : (u b a d : ℕ) → plan (moveBegin u b a d) ≡ movePlan b a d ++ (close u ∷ [])
-unfolding plan
+unfolding plan saves
 plan-move u b a d =
     ap (λ (l : List Step). l ++ (close u ∷ []))
-    (pick-false (eqb 3 1) _ _ (ne-eqb 3 1 (λ z. omega arith)) ∙ pick-false (eqb 3 2) _ _ (ne-eqb 3 2 (λ z. omega arith)))
+    (pick-false (eqb 3 1) _ _ (ne-eqb 3 1 (λ z. omega arith)) ∙ pick-false (eqb 3 2) _ _ (ne-eqb 3 2 (λ z. omega arith)) ∙ pick-false _ _ _ (plain 3 (omega arith)))
 
 -- a swap
 plan-swap : (u p q a b : ℕ) → plan (swapBegin u p q a b) ≡ swapPlan p q a b ++ (close u ∷ [])
@@ -131,22 +131,24 @@ module _ (w : List ℕ) (tidy : Tidy w) where
 
     -- the unit in place
     in-place : n + length (plan (begun (x .page))) ≤ 4294967296 → Keeps n (begun (x .page)) w
+    unfolding saves
     in-place few =
         let q = plan-compact u (c .fill) b (pagesOf (x ∷ ds)) (x .page) in
         finish w tidy n (begun (x .page))
         (compact-ok u (c .fill) b x ds (x .page) hu (c .fill-low) (c .fill-high) basic leafy once (c .some-join) (c .few-join) (leafy .0) (inl refl))
-        (rw q (apart-compact b u x ds once)) few
+        (plain 1 (omega arith)) (rw q (apart-compact b u x ds once)) few
         (rw q (kept-back _ (compact (c .left) (c .top) (c .right) (c .before) x ds (c .rest) s tree-here (c .here) u (c .fits))))
 
     -- the unit to a new place
     new-place : (d : ℕ) → Leafy d → x .page ≢ d → leafOf w d ≡ [] → n + length (plan (begun d)) ≤ 4294967296 → Keeps n (begun d) w
+    unfolding saves
     new-place d hd apart clear few =
         let q = plan-compact u (c .fill) b (pagesOf (x ∷ ds)) d in
         let zero-to : pointers d (x ∷ ds) ≡ 0 = omega (arith, counted d, tree w tidy .lower .pointed d, ap full clear) in
         finish w tidy n (begun d)
         (compact-ok u (c .fill) b x ds d hu (c .fill-low) (c .fill-high) basic leafy once (c .some-join) (c .few-join) hd
         (inr (listed-none d (x ∷ ds) zero-to)))
-        (rw q (apart-new b u x ds d apart once (omega arith))) few
+        (plain 1 (omega arith)) (rw q (apart-new b u x ds d apart once (omega arith))) few
         (rw q
         (kept-back _
         (compact-new (c .left) (c .top) (c .right) (c .before) x ds (c .rest) s tree-here (c .here) d clear u apart (omega (arith, hd .0)) (c .fits))))
@@ -191,12 +193,13 @@ module _ (w : List ℕ) (tidy : Tidy w) where
   -- a leaf moved to an empty page
   moves : (n u : ℕ) (c : Leaf) (next : List Leaf) (p : Spot s root c next) (d : ℕ) → u ≤ most4 → Leafy d → p .entry .page ≢ d → emptyLeaf d (page d w) ≡ true
       → n + length (plan (moveBegin u (p .top .page) (p .entry .page) d)) ≤ 4294967296 → Keeps n (moveBegin u (p .top .page) (p .entry .page) d) w
+  unfolding saves
   moves n u c next p d hu hd apart blank few =
       let b : ℕ = p .top .page in
       let a : ℕ = p .entry .page in
       let q = plan-move u b a d in
       finish w tidy n (moveBegin u b a d) (move-ok u b a d hu (spot-basic c next p) (spot-leafy c next p) hd (λ z. apart (sym z)))
-      (rw q (apart-move b a d u)) few
+      (plain 3 (omega arith)) (rw q (apart-move b a d u)) few
       (rw q
       (move root s (tree w tidy) (p .entry) b (p .before) (p .after) (p .entries) d (empty-place w tidy d blank) (leaf-short w tidy a) u
       (omega (arith, hd .0))))
@@ -205,6 +208,7 @@ module _ (w : List ℕ) (tidy : Tidy w) where
   swaps : (n u : ℕ) (c d : Leaf) (next more : List Leaf) (p : Spot s root c next) (q : Spot s root d more) → u ≤ most4 → p .entry .page ≢ q .entry .page
       → n + length (plan (swapBegin u (p .top .page) (q .top .page) (p .entry .page) (q .entry .page))) ≤ 4294967296
       → Keeps n (swapBegin u (p .top .page) (q .top .page) (p .entry .page) (q .entry .page)) w
+  unfolding saves
   swaps n u c d next more p q hu apart few =
       let a : ℕ = p .entry .page in
       let b : ℕ = q .entry .page in
@@ -213,7 +217,7 @@ module _ (w : List ℕ) (tidy : Tidy w) where
       let e = plan-swap u (p .top .page) (q .top .page) a b in
       finish w tidy n (swapBegin u (p .top .page) (q .top .page) a b)
       (swap-ok u (p .top .page) (q .top .page) a b hu (spot-basic c next p) (spot-basic d more q) la lb apart)
-      (rw e (apart-swap (p .top .page) (q .top .page) a b u apart)) few
+      (plain 2 (omega arith)) (rw e (apart-swap (p .top .page) (q .top .page) a b u apart)) few
       (rw e
       (swap root s (tree w tidy) (p .entry) (q .entry) (p .top .page) (q .top .page) (p .before) (p .after) (q .before) (q .after) (p .entries) (q .entries) apart
       (leaf-short w tidy a) (leaf-short w tidy b) u (omega (arith, la .0)) (omega (arith, lb .0))))

@@ -2,14 +2,14 @@
 -- bytes as begin counted, and leave a well-formed tree with the same records. Assumes nothing.
 use Prim.Native.Nat.{ℕ, _+_, _≤_}
 use mathlib.Core.Path.{_≡_}
-use mathlib.Core.Bool.{true}
+use mathlib.Core.Bool.{true, false}
 use mathlib.Core.List.{List, [], _∷_}
 use mathlib.Core.Option.{Option, some, none}
 use lib.ListN.{length}
 use Rattle.field.specs.Bytes.{Bytes, most4}
 use Rattle.page.specs.Page.{formed}
 use Rattle.page.specs.Pages.{page, pages, allFormed}
-use Rattle.log.specs.Record.{Begin, Rec, size}
+use Rattle.log.specs.Record.{Begin, saves, Rec, size}
 use Rattle.log.specs.Plan.{Step, plan}
 use Rattle.log.specs.Log.{beginOk}
 use Rattle.tree.specs.Tree.{wellFormed, allRecords}
@@ -47,6 +47,7 @@ pub data Carried : (n : ℕ) (did : List Rec) (todo : List Step) (w w′ : List 
 -- a unit that can be carried out to its end, from its begin record on, and keeps the tree and its records
 pub record Keeps (n : ℕ) (g : Begin) (w : List ℕ) : Type 0 where
   pub ok : beginOk g ≡ true
+  pub plain : saves g ≡ false
   pub after : List ℕ
   pub recs : List Rec
   pub carried : Carried n [] (plan g) w after recs

@@ -2,13 +2,13 @@
 -- the record's number. Assumes nothing.
 use Prim.Native.Nat.{ℕ, _-_, _≤_, _<_}
 use native.Mathlib.Omega.{arith}
-use mathlib.Core.Path.{_≡_, sym, _∙_}
-use mathlib.Core.Logic.{_⊎_, ⊎-elim}
+use mathlib.Core.Path.{_≡_, refl, sym, _∙_}
+use mathlib.Core.Logic.{_⊎_, inl, inr, ⊎-elim}
 use mathlib.Core.Bool.{Bool, true, false}
 use mathlib.Core.List.{List, []}
-use mathlib.Core.Option.{some}
+use mathlib.Core.Option.{some, Option·some-injective}
 use lib.ListN.{length}
-use lib.Dec.{eqb}
+use lib.Dec.{eqb, leb}
 use borrow.Author.Tests.{eq-eqb, ne-eqb}
 use Rattle.field.specs.Test.{pick}
 use Rattle.field.specs.Bytes.{Bytes}
@@ -18,20 +18,22 @@ use Rattle.page.specs.Places.{Leafy, Basic}
 use Rattle.page.specs.Change.{redirected, removed}
 use Rattle.page.proofs.Kept.{Changed, emptied-kept, appended-kept, redirected-kept, removed-kept, bytes-emptied, bytes-appended, bytes-redirected, bytes-removed}
 use Rattle.page.proofs.Region.{empty-formed, base-formed, leaf-formed}
-use Rattle.log.specs.Record.{Rec, LB, LO, LI, LM, LE}
-use Rattle.log.specs.Log.{listed}
-use Rattle.log.specs.Valid.{Moved}
-use Rattle.unit.specs.Next.{targets, change, changeAgain, apply, repeat}
+use Rattle.log.specs.Record.{Image, Rec, LB, LO, LI, LM, LG, LE}
+use Rattle.log.specs.Log.{listed, allBear}
+use Rattle.log.specs.Valid.{Moved, Bears, Filed}
+use Rattle.unit.specs.Next.{placesOf, imageAt, targets, change, changeAgain, apply, repeat}
 use Rattle.unit.proofs.Places.{RecKeeps}
 use Rattle.unit.proofs.Pagewise.{listed-none, listed-one, Once, once-one, changed-bytes, again-cases}
+use Rattle.unit.proofs.Ended.{image-at, places-once, end-bytes}
 
--- the rows of an LI are those that an LO took out
+-- the rows of an LI are those that an LO took out; the images of an LE are of ascending pages
 abbrev pub RowsOf : Rec → Type 0
 RowsOf (LB g) = Unit {0}
 RowsOf (LO org dest rs) = Unit {0}
 RowsOf (LI org dest back rs) = Moved rs
 RowsOf (LM base old new key) = Unit {0}
-RowsOf (LE unit) = Unit {0}
+RowsOf (LG i) = Unit {0}
+RowsOf (LE unit images) = Filed 0 images
 
 -- ---- one record
 
@@ -63,17 +65,31 @@ modify-left n b key old new pg pg′ h to small e =
     (sym (pick-false (eqb new 0) (removed n key old pg) (redirected n key old new pg) (ne-eqb new 0 (λ z. omega (arith, l .0)))) ∙ e) small (l .0) (l .1)))
     to
 
-pub change-leaves : (n p : ℕ) (r : Rec) (pg pg′ : List ℕ) → RecKeeps r → RowsOf r → n < 4294967296 → listed p (targets r) ≡ true
-    → change n r p pg ≡ some pg′ → Leaves n p pg′
+-- an LE, by whether the page's number is lower
+end-left : (n p : ℕ) (images : List Image) (pg pg′ : List ℕ) → Filed 0 images → allBear n images ≡ true → listed p (placesOf images) ≡ true
+    → pick (leb n (number pg)) pg (imageAt p images pg) ≡ pg′ → ((leb n (number pg) ≡ true) × (pg′ ≡ pg)) ⊎ Leaves n p pg′
+end-left n p images pg pg′ k bears t e = by-number (leb n (number pg)) refl e
+  where
+    by-number : (z : Bool) → leb n (number pg) ≡ z → pick z pg (imageAt p images pg) ≡ pg′ → ((leb n (number pg) ≡ true) × (pg′ ≡ pg)) ⊎ Leaves n p pg′
+    by-number true h c = inl (h, sym (unfold pick in c))
+    by-number false h c =
+        let f = image-at n 0 p images pg k bears t in
+        let q : imageAt p images pg ≡ pg′ = unfold pick in c in
+        inr (rw (← q) (record { form = f .form; stamp = f .stamp; whole = f .whole }))
+
+-- a page that a record changes: an LE leaves it as it is where its number is not lower
+pub change-cases : (n p : ℕ) (r : Rec) (pg pg′ : List ℕ) → RecKeeps r → RowsOf r → Bears n r → n < 4294967296 → listed p (targets r) ≡ true
+    → change n r p pg ≡ some pg′ → ((leb n (number pg) ≡ true) × (pg′ ≡ pg)) ⊎ Leaves n p pg′
 unfolding targets change
-change-leaves n p (LB g) pg pg′ k rows small t e = absurd (listed-none p t)
-change-leaves n p (LO org dest rs) pg pg′ k rows small t e =
-    rw (listed-one p org t) (empty-left n org pg′ (omega (arith, k .0)) (emptied-kept n rs pg pg′ e small))
-change-leaves n p (LI org dest back rs) pg pg′ k rows small t e =
-    rw (listed-one p dest t) (leaf-left n dest _ pg′ (k .0) (appended-kept n rs pg pg′ e small (rows .long) (rows .some-rows)))
-change-leaves n p (LM b old new key) pg pg′ k rows small t e =
-    rw (listed-one p b t) (modify-left n b key old new pg pg′ (k .0) (k .1) small e)
-change-leaves n p (LE unit) pg pg′ k rows small t e = absurd (listed-none p t)
+change-cases n p (LB g) pg pg′ k rows bears small t e = absurd (listed-none p t)
+change-cases n p (LO org dest rs) pg pg′ k rows bears small t e =
+    inr (rw (listed-one p org t) (empty-left n org pg′ (omega (arith, k .0)) (emptied-kept n rs pg pg′ e small)))
+change-cases n p (LI org dest back rs) pg pg′ k rows bears small t e =
+    inr (rw (listed-one p dest t) (leaf-left n dest _ pg′ (k .0) (appended-kept n rs pg pg′ e small (rows .long) (rows .some-rows))))
+change-cases n p (LM b old new key) pg pg′ k rows bears small t e =
+    inr (rw (listed-one p b t) (modify-left n b key old new pg pg′ (k .0) (k .1) small e))
+change-cases n p (LG i) pg pg′ k rows bears small t e = absurd (listed-none p t)
+change-cases n p (LE unit images) pg pg′ k rows bears small t e = end-left n p images pg pg′ k bears t (Option·some-injective _ pg′ e)
 
 -- the pages that a record changes are pages of the 64, each once
 pub targets-once : (r : Rec) → RecKeeps r → Once (targets r)
@@ -82,7 +98,8 @@ targets-once (LB g) k = tt
 targets-once (LO org dest rs) k = once-one org (omega (arith, k .1))
 targets-once (LI org dest back rs) k = once-one dest (omega (arith, k .1))
 targets-once (LM b old new key) k = once-one b (omega (arith, k .0 .1))
-targets-once (LE unit) k = tt
+targets-once (LG i) k = tt
+targets-once (LE unit images) k = places-once 0 images k
 
 -- an LM, by whether it removes
 modify-bytes : (b : Bool) (n key old new : ℕ) (pg pg′ : List ℕ) → Bytes pg → pick b (removed n key old pg) (redirected n key old new pg) ≡ some pg′ → Bytes pg′
@@ -97,7 +114,8 @@ change-bytes n (LB g) p pg pg′ rows h e = let q : pg ≡ pg′ = cc in rw (←
 change-bytes n (LO org dest rs) p pg pg′ rows h e = bytes-emptied n rs pg pg′ e h
 change-bytes n (LI org dest back rs) p pg pg′ rows h e = bytes-appended n rs pg pg′ e h (rows .bytes)
 change-bytes n (LM b old new key) p pg pg′ rows h e = modify-bytes (eqb new 0) n key old new pg pg′ h e
-change-bytes n (LE unit) p pg pg′ rows h e = let q : pg ≡ pg′ = cc in rw (← q) h
+change-bytes n (LG i) p pg pg′ rows h e = let q : pg ≡ pg′ = cc in rw (← q) h
+change-bytes n (LE unit images) p pg pg′ rows h e = end-bytes n images p pg pg′ rows h (Option·some-injective _ pg′ e)
 
 -- and so do all pages
 pub apply-bytes : (n : ℕ) (r : Rec) (w w′ : List ℕ) → RowsOf r → Bytes w → apply n r w ≡ some w′ → Bytes w′

@@ -3,6 +3,7 @@
 -- that an LM takes; what the code makes of one record, and of a whole log repeated; that pages in form stay in form.
 pub mod Places
 pub mod Pagewise
+pub mod Ended
 pub mod Changed
 pub mod Walk
 pub mod Strays

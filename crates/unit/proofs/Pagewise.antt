@@ -35,7 +35,7 @@ listed-other : (p q : ℕ) (ps : List ℕ) → (p ≡ q → ⊥) → listed p (q
 unfolding listed
 listed-other p q ps ne = pick-false (eqb p q) true (listed p ps) (ne-eqb p q ne)
 
-listed-cases : (p q : ℕ) (ps : List ℕ) → listed p (q ∷ ps) ≡ true → (p ≡ q) ⊎ (listed p ps ≡ true)
+pub listed-cases : (p q : ℕ) (ps : List ℕ) → listed p (q ∷ ps) ≡ true → (p ≡ q) ⊎ (listed p ps ≡ true)
 unfolding listed
 listed-cases p q ps i = ⊎-elim (λ (e : eqb p q ≡ true). inl (eqb-true p q e)) (λ (e : listed p ps ≡ true). inr e) (pick-or (eqb p q) (listed p ps) i)
 

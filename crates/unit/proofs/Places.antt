@@ -14,12 +14,13 @@ use Rattle.field.specs.Test.{both, pick, bind}
 use Rattle.field.proofs.Test.{both-2, all-head, all-tail}
 use Rattle.page.specs.Page.{firstBase, lastBase, firstLeaf, lastLeaf}
 use Rattle.page.specs.Places.{Leafy, Basic}
-use Rattle.log.specs.Record.{Begin, Rec, LB, LO, LI, LM, LE}
+use Rattle.log.specs.Record.{Begin, saves, Rec, LB, LO, LI, LM, LG, LE}
 use Rattle.log.specs.Plan.{Step, takeOut, bringIn, point, close, gather, removals, others, replacing, compactPlan, movePlan, swapPlan, plan}
-use Rattle.log.specs.Log.{Open, State, first, going, openedBy, after, afterAll, within, onBases, onLeaves, compactOk, swapOk, moveOk, typeOk, beginOk, Log, atEnd}
+use Rattle.log.specs.Log.{Open, State, first, going, noting, openedBy, after, afterAll, within, onBases, onLeaves, compactOk, swapOk, moveOk, saveOk, typeOk, beginOk, Log, atEnd, imagesOf}
 use Rattle.log.proofs.Begin.{within-head, within-tail}
-use Rattle.log.specs.Valid.{Does, does-out, does-in, does-point, does-close, Follows, begins, goes, Valid, nil, cons, Good}
+use Rattle.log.specs.Valid.{Does, does-out, does-in, does-point, does-close, Logs, logs-image, logs-end, Follows, begins, goes, logs, Valid, nil, cons, Good, Filed}
 use Rattle.log.proofs.State.{Every}
+use Rattle.log.proofs.Filed.{image-filed}
 
 -- where a step, and where a record changes a page
 abbrev pub StepKeeps : Step → Type 0
@@ -33,7 +34,8 @@ RecKeeps (LB g) = Unit {0}
 RecKeeps (LO org dest rs) = Leafy org
 RecKeeps (LI org dest back rs) = Leafy dest
 RecKeeps (LM base old new key) = Basic base × ((new ≡ 0) ⊎ Leafy new)
-RecKeeps (LE unit) = Unit {0}
+RecKeeps (LG i) = Unit {0}
+RecKeeps (LE unit images) = Filed 0 images
 
 -- every step of a list keeps to the regions
 pub data Keeping : List Step → Type 0 where
@@ -133,15 +135,16 @@ module _ (g : Begin) (bs : onBases (g .bases) ≡ true) (ls : onLeaves (g .leave
       move-keeps _ _ (g .dest) (base-first (omega arith)) (leaf-at 0 (omega arith)) (within-head firstLeaf lastLeaf (g .dest) [] (all-head _ _ e3))
 
   -- by type
-  type-plan : (a b : Bool) → pick a (compactOk g) (pick b (swapOk g) (both (eqb (g .type) 3) (moveOk g))) ≡ true
+  type-plan : (a b c : Bool) → pick a (compactOk g) (pick b (swapOk g) (pick c (saveOk g) (both (eqb (g .type) 3) (moveOk g)))) ≡ true
       → Keeping
       (pick a (compactPlan (getD (g .bases) 0 0) (g .dest) (g .leaves))
       (pick b (swapPlan (getD (g .bases) 0 0) (getD (g .bases) 1 (getD (g .bases) 0 0)) (getD (g .leaves) 0 0) (getD (g .leaves) 1 0))
-      (movePlan (getD (g .bases) 0 0) (getD (g .leaves) 0 0) (g .dest))))
+      (pick c [] (movePlan (getD (g .bases) 0 0) (getD (g .leaves) 0 0) (g .dest)))))
   unfolding pick
-  type-plan true b e = compact-plan e
-  type-plan false true e = swap-plan e
-  type-plan false false e = move-plan (both-2 (eqb (g .type) 3) (moveOk g) e)
+  type-plan true b c e = compact-plan e
+  type-plan false true c e = swap-plan e
+  type-plan false false true e = no-step
+  type-plan false false false e = move-plan (both-2 (eqb (g .type) 3) (moveOk g) e)
 
 pub plan-keeps : (g : Begin) → beginOk g ≡ true → Keeping (plan g)
 unfolding beginOk typeOk plan
@@ -149,14 +152,14 @@ plan-keeps g e =
     let e1 = all-tail _ _ e in
     let e2 = all-tail _ _ e1 in
     let e4 = all-tail _ _ (all-tail _ _ e2) in
-    keeping-append (type-plan g (all-head _ _ e2) (all-head _ _ e4) (eqb (g .type) 1) (eqb (g .type) 2) (all-head _ _ e1)) (one-more tt no-step)
+    keeping-append (type-plan g (all-head _ _ e2) (all-head _ _ e4) (eqb (g .type) 1) (eqb (g .type) 2) (saves g) (all-head _ _ e1)) (one-more tt no-step)
 
 -- ---- every record of a log in form
 
--- the steps to come of a unit that is open
+-- the steps to come of a unit that is open, and the images of a put or delete
 abbrev pub OpenKeeps : Option Open → Type 0
 OpenKeeps none = Unit {0}
-OpenKeeps (some o) = Keeping (o .todo)
+OpenKeeps (some o) = Keeping (o .todo) × Filed 0 (imagesOf (o .did) [])
 
 keeping-drop : {xs : List Step} → Keeping xs → Keeping (drop 1 xs)
 keeping-drop no-step = no-step
@@ -173,20 +176,24 @@ does-keeps : {did : List Rec} {x : Step} {r : Rec} → Does did x r → StepKeep
 does-keeps (does-out m) h = h
 does-keeps (does-in e) h = h
 does-keeps (does-point b) h = h
-does-keeps does-close h = h
+does-keeps does-close h = tt
 
 pub follows-keeps : {u : ℕ} {o : Option Open} {r : Rec} → Follows u o r → OpenKeeps o → RecKeeps r
-follows-keeps (begins e ok) h = tt
-follows-keeps (goes {x = x} {xs = xs} e d) h = does-keeps d (keeping-head x xs _ e h)
+follows-keeps (begins e ok l b) h = tt
+follows-keeps (goes {x = x} {xs = xs} v e d) h = does-keeps d (keeping-head x xs _ e (h .0))
+follows-keeps (logs v (logs-image f l b)) h = tt
+follows-keeps (logs v (logs-end n)) h = h .1
 
 -- what is open after a record that may come next
 opened-keeps : {u : ℕ} {o : Option Open} {r : Rec} → Follows u o r → OpenKeeps o → OpenKeeps (openedBy r o)
-unfolding openedBy bind going
-opened-keeps (begins {g = g} e ok) h = plan-keeps g ok
-opened-keeps (goes e (does-out m)) h = keeping-drop h
-opened-keeps (goes e (does-in q)) h = keeping-drop h
-opened-keeps (goes e (does-point b)) h = keeping-drop h
-opened-keeps (goes e does-close) h = tt
+unfolding openedBy bind going noting imagesOf
+opened-keeps (begins {g = g} e ok l b) h = (plan-keeps g ok, tt)
+opened-keeps (goes v e (does-out m)) h = (keeping-drop (h .0), h .1)
+opened-keeps (goes v e (does-in q)) h = (keeping-drop (h .0), h .1)
+opened-keeps (goes v e (does-point b)) h = (keeping-drop (h .0), h .1)
+opened-keeps (goes v e does-close) h = tt
+opened-keeps (logs {o = o} v (logs-image {i = i} f l b)) h = (h .0, image-filed (o .did) i f l b (h .1))
+opened-keeps (logs v (logs-end n)) h = tt
 
 pub valid-keeps : {s : State} {rs : List Rec} → Valid s rs → OpenKeeps (s .opened) → Every RecKeeps rs
 unfolding after

@@ -5,27 +5,35 @@ use native.Mathlib.Nat.{add-sub-cancel-left}
 use native.Mathlib.Omega.{arith}
 use mathlib.Core.Path.{_≡_, refl, sym, ap, _∙_, subst}
 use mathlib.Core.Bool.{Bool, true}
-use mathlib.Core.List.{List}
-use lib.ListN.{length, take, drop, length-take, length-drop, take-append-drop}
-use lib.Seq.{drop-drop}
+use mathlib.Core.List.{List, []}
+use lib.ListN.{length, take, drop, getD, length-take, length-drop, take-append-drop}
+use lib.Seq.{drop-drop, getD-drop}
+use borrow.Author.Tests.{eq-eqb, ne-eqb}
+use borrow.Rule.Slice.PartAt.{part-to-end}
 use Rattle.field.specs.Bytes.{le2, le4}
+use Rattle.field.proofs.Test.{pick-true, pick-false}
 use Rattle.field.proofs.Number.{le2-drop, le4-drop}
 use Rattle.page.specs.Page.{rowsOf, ascendRecords}
 use Rattle.page.proofs.Rows.{rowsOf-front}
-use Rattle.log.specs.Record.{Rec, LO, LI, LM, LE}
+use Rattle.log.specs.Record.{begin, lengthOf, Rec, LO, LI, LM, LG, LE}
+use Rattle.log.specs.Table.{kinds, kindAt}
+use Rattle.log.specs.Log.{readImage}
+use Rattle.log.specs.Valid.{Filed}
+use Rattle.log.specs.Scan.{imagesIn, imagesOn}
 use Rattle.log.specs.Plan.{takeOut, bringIn, point}
 use Rattle.log.specs.Steps.{stepOf}
-use Rattle.log.specs.Source.{sourceAt, sourceRows, sourced, recordAt}
+use Rattle.log.specs.Source.{sourceAt, sourceRows, sourced, recordAt, savedAt}
 use Rattle.log.specs.declared.scan.Walk.{Walk}
 use Rattle.log.specs.declared.steps.Planned.{Planned}
 use Rattle.log.specs.declared.steps.Planned.the-variants.{Out, In, Point, Close}
-use Rattle.unit.specs.Next.{targets, repeat}
-use Rattle.unit.specs.Made.{Did}
+use Rattle.unit.specs.Next.{placesOf, targets, repeat}
+use Rattle.unit.specs.Made.{Did, ended}
 use Rattle.field.specs.declared.PageNo.{PageNo}
 use Rattle.field.specs.declared.UnitNo.{UnitNo}
 use Rattle.unit.specs.Again.{OutReads, InReads, PointReads, Reads}
 use Rattle.unit.proofs.Pagewise.{repeat-stays}
 use Rattle.unit.proofs.Applied.{did-some}
+use Rattle.unit.proofs.Ended.{end-repeats}
 
 -- k rows that the code lends
 rows-lent : (l : List ℕ) (at k : ℕ) → at + 16 * k ≤ length l → rowsOf 16 k (take (at + 16 * k - at) (drop at l)) ≡ rowsOf 16 k (drop at l)
@@ -105,5 +113,36 @@ module _ (n : ℕ) (l : List ℕ) (w : Walk) (p : Planned) (v v′ : List ℕ) (
   step-point! base old new other e d = rw e (d other)
 
 pub step-close! : (n : ℕ) (l : List ℕ) (w : Walk) (p : Planned) (v : List ℕ) (unit : UnitNo) → p ≡ Close unit → Did (repeat n (recordAt l w (stepOf p)) v) v true v
-unfolding stepOf recordAt targets
-step-close! n l w p v unit e = rw e (did-some _ v v v (repeat-stays n (LE (unit .0)) v refl) refl)
+unfolding stepOf recordAt targets placesOf
+step-close! n l w p v unit e = rw e (did-some _ v v v (repeat-stays n (LE (unit .0) []) v refl) refl)
+
+-- ---- a record of a put or delete
+
+module _ (n : ℕ) (l : List ℕ) (w : Walk) (v : List ℕ) where
+  -- an LG changes no page
+  pub image-redone : getD l (w .at + 1) 0 ≡ 71 → Did (repeat n (savedAt l w) v) v true v
+  unfolding savedAt targets
+  image-redone e =
+      let m : List ℕ = drop (w .at) l in
+      let r : savedAt l w ≡ LG (readImage m) = pick-true _ _ _ (eq-eqb (getD m 1 0) 71 (getD-drop (w .at) l 1 0 ∙ e)) in
+      rw r (did-some _ v v v (repeat-stays n (LG (readImage m)) v refl) refl)
+
+  -- an LE lays the images before it
+  module _ (from : ℕ) (pf : from ≡ w .begin + lengthOf (kindAt 1) 1) where
+    images-lent : imagesIn (w .done) (take (length l - from) (drop from l)) ≡ imagesOn l w
+    unfolding imagesOn kindAt kinds
+    images-lent =
+        let d : drop (lengthOf begin 1) (drop (w .begin) l) ≡ drop from l = drop-drop (lengthOf begin 1) (w .begin) l ∙ ap (λ (y : ℕ). drop y l) (sym pf) in
+        rw (part-to-end, d)
+
+    pub filed-lent : Filed 0 (imagesOn l w) → Filed 0 (imagesIn (w .done) (take (length l - from) (drop from l)))
+    filed-lent f = rw images-lent f
+
+    pub end-redone : (getD l (w .at + 1) 0 ≡ 71 → ⊥) → Filed 0 (imagesOn l w) → (v′ : List ℕ)
+        → v′ ≡ ended n (imagesIn (w .done) (take (length l - from) (drop from l))) v → Did (repeat n (savedAt l w) v) v true v′
+    unfolding savedAt
+    end-redone f h v′ e =
+        let m : List ℕ = drop (w .at) l in
+        let r : savedAt l w ≡ LE (w .unit .0) (imagesOn l w) = pick-false _ _ _ (ne-eqb (getD m 1 0) 71 (λ q. f (sym (getD-drop (w .at) l 1 0) ∙ q))) in
+        let x : v′ ≡ ended n (imagesOn l w) v = e ∙ rw images-lent in
+        rw r (did-some _ v v′ _ (end-repeats (w .unit .0) n (imagesOn l w) v h) x)

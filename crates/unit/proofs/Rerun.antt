@@ -13,22 +13,24 @@ use Rattle.field.specs.Test.{pick, given, bind, there}
 use Rattle.field.specs.Bytes.{Bytes, le2}
 use Rattle.field.proofs.Test.{pick-true, pick-false, bind-intro}
 use Rattle.field.proofs.Number.{le2-drop}
-use Rattle.log.specs.Record.{Begin, Rec, LB, LM, size, kindOf, carried, lengthOf}
+use Rattle.log.specs.Record.{Begin, saves, Rec, LB, LM, size, kindOf, carried, lengthOf}
 use Rattle.log.specs.Plan.{Step, takeOut, bringIn, point, close, plan}
-use Rattle.log.specs.Log.{Open, State, first, after, beginOk, readBegin, Log, readLog}
+use Rattle.log.specs.Log.{Open, State, first, after, beginOk, savesAt, readBegin, Log, readLog}
 use Rattle.log.specs.Scan.{shown, turned, Ready, topped, live}
 use Rattle.log.specs.Steps.{stepOf}
-use Rattle.log.specs.Source.{recordAt}
+use Rattle.log.specs.Source.{recordAt, savedAt}
 use Rattle.log.specs.declared.scan.Walk.{Walk}
 use Rattle.log.specs.declared.steps.Planned.{Planned}
 use Rattle.log.specs.Valid.{Moved}
+use Rattle.log.proofs.Record.{size-least}
+use Rattle.log.proofs.Held.{keeps, saves-of, images-on}
 use Rattle.log.proofs.Laid.{Sourced}
 use Rattle.log.proofs.Toward.{Toward, toward-first, toward-comes, toward-over, toward-ready, turned-ok, toward-turned, toward-room, toward-fits}
 use Rattle.log.proofs.Toward.{toward-rest, toward-less, Comes, topped-read, shown-opened, shown-shut, Next, toward-next, toward-source, Takes}
-use Rattle.log.proofs.Toward.{toward-begins, toward-record, toward-takes}
+use Rattle.log.proofs.Toward.{toward-begins, toward-record, toward-takes, toward-saved}
 use Rattle.unit.specs.Next.{targets, repeat, repeatAll}
 use Rattle.unit.specs.Made.{Did}
-use Rattle.unit.specs.Again.{Reads, nextStep, Ahead, redone, repeated, Repeated}
+use Rattle.unit.specs.Again.{Reads, SaveReads, nextStep, Ahead, redone, repeated, Repeated}
 use Rattle.unit.proofs.Places.{StepKeeps, Keeping, no-step, one-more, plan-keeps}
 use Rattle.unit.proofs.Pagewise.{repeat-stays}
 use Rattle.unit.proofs.Applied.{did-some}
@@ -52,15 +54,30 @@ module _ (l : List ℕ) (w : Walk) (v : List ℕ) where
   unfolding redone
   redone-shut! h = did-some _ v v v (pick-false _ _ _ (not-true (w .opened) h)) refl
 
-  module _ (h : not (w .opened) ≡ false) (p : Planned) (e : stepOf p ≡ nextStep l w) where
+  -- where a put or delete is open
+  module _ (h : not (w .opened) ≡ false) (z : Bool) (ez : z ≡ savesAt (take (length l - w .begin) (drop (w .begin) l))) where
+    saves-lent : z ≡ savesAt (drop (w .begin) l)
+    saves-lent = rw part-to-end at ez
+
+    pub redone-saves : Ahead l w → z ≡ true → SaveReads l w
+    redone-saves a t = a .saves (not-false (w .opened) h) (sym saves-lent ∙ t)
+
+    pub redone-saved! : z ≡ true → (r : Bool) (v′ : List ℕ) → Did (repeat (w .number .0 + 1) (savedAt l w) v) v r v′ → Did (redone l w v) v r v′
+    unfolding redone
+    redone-saved! t r v′ d =
+        let q : redone l w v ≡ repeat (w .number .0 + 1) (savedAt l w) v = unfold redone in
+        (pick-true _ _ _ (not-false (w .opened) h) ∙ ap (λ (x : Rec). repeat (w .number .0 + 1) x v) (pick-true _ _ _ (sym saves-lent ∙ t))) in
+        rw q d
+
+  module _ (h : not (w .opened) ≡ false) (z : Bool) (ez : z ≡ savesAt (take (length l - w .begin) (drop (w .begin) l))) (t : z ≡ false) (p : Planned) (e : stepOf p ≡ nextStep l w) where
     pub redone-reads : Ahead l w → Reads l w (stepOf p)
-    redone-reads a = subst (Reads l w) (sym e) (a .reads (not-false (w .opened) h))
+    redone-reads a = subst (Reads l w) (sym e) (a .reads (not-false (w .opened) h) (sym (saves-lent h z ez) ∙ t))
 
     pub redone-open! : (r : Bool) (v′ : List ℕ) → Did (repeat (w .number .0 + 1) (recordAt l w (stepOf p)) v) v r v′ → Did (redone l w v) v r v′
-    unfolding redone
     redone-open! r v′ d =
-        let q : pick (w .opened) (repeat (w .number .0 + 1) (recordAt l w (nextStep l w)) v) (some v) ≡ repeat (w .number .0 + 1) (recordAt l w (stepOf p)) v =
-        pick-true _ _ _ (not-false (w .opened) h) ∙ ap (λ (x : Step). repeat (w .number .0 + 1) (recordAt l w x) v) (sym e) in
+        let q : redone l w v ≡ repeat (w .number .0 + 1) (recordAt l w (stepOf p)) v = unfold redone in
+        (pick-true _ _ _ (not-false (w .opened) h) ∙ ap (λ (x : Rec). repeat (w .number .0 + 1) x v) (pick-false _ _ _ (sym (saves-lent h z ez) ∙ t))
+        ∙ ap (λ (x : Step). repeat (w .number .0 + 1) (recordAt l w x) v) (sym e)) in
         rw q d
 
 -- ---- the record that comes next
@@ -80,19 +97,19 @@ shown-at : (s : State) → (shown s) .at ≡ s .at
 unfolding shown
 shown-at s = refl
 
-module _ {l : List ℕ} {s : State} {r : Rec} {rs : List Rec} {o : Open} (t : Toward l s (r ∷ rs)) (op : s .opened ≡ some o) where
+module _ {l : List ℕ} {s : State} {r : Rec} {rs : List Rec} {o : Open} (t : Toward l s (r ∷ rs)) (op : s .opened ≡ some o) (v : saves (o .start) ≡ false) where
   reads-of : (x : Step) (xs : List Step) → o .todo ≡ x ∷ xs → StepKeeps x → (shown s) .begin + 44 ≤ length l → Reads l (shown s) x
   unfolding recordAt
   reads-of (takeOut org dest) xs e k h =
-      let a : Takes l (s .at) = toward-takes t op e in
+      let a : Takes l (s .at) = toward-takes t op v e in
       let q : le2 (drop (s .at) l) 16 ≡ le2 l ((shown s) .at + 16) = le2-drop (s .at) 16 l ∙ ap (λ (i : ℕ). le2 l (i + 16)) (sym (shown-at s)) in
       (omega (arith, k .1), omega (arith, a .room, shown-at s))
   reads-of (bringIn org dest back) xs e k h =
-      let a : Sourced l s (o .did) back = toward-source t op e in
+      let a : Sourced l s (o .did) back = toward-source t op v e in
       let m : Moved _ = a .moved in
       (omega (arith, k .1), h, omega (arith, a .count, m .some-rows), omega (arith, a .count, m .few-rows), a .room, rw (a .rows) (m .order))
   reads-of (point base old new other) xs e k h =
-      (omega (arith, k .0 .1), omega (arith, toward-room t, shown-at s, modify-size r base old new _ (toward-record t op e)))
+      (omega (arith, k .0 .1), omega (arith, toward-room t, shown-at s, modify-size r base old new _ (toward-record t op v e)))
   reads-of (close unit) xs e k h = tt
 
 begin-repeats : (n : ℕ) (g : Begin) (v : List ℕ) → repeat n (LB g) v ≡ some v
@@ -108,27 +125,48 @@ unfolding nextStep
 next-is x = x .at
 
 module _ {l : List ℕ} {s : State} {r : Rec} {rs : List Rec} (b : Bytes l) (t : Toward l s (r ∷ rs)) where
+  -- the unit that is open saves where its begin record says so
+  saves-by : (o : Open) → s .opened ≡ some o → saves (o .start) ≡ savesAt (drop ((shown s) .begin) l)
+  saves-by o op = ap saves (t .holds .anchored o op .start) ∙ saves-of (s .unit) _
+
+  reads-by : (o : Open) → s .opened ≡ some o → saves (o .start) ≡ false → Reads l (shown s) (nextStep l (shown s))
+  reads-by o op v =
+      let x = toward-next t op v in
+      let k : StepKeeps (nextStep l (shown s)) = unfold nextStep in keeps-at ((shown s) .done) ((shown s) .unit .0) (plan-keeps _ (x .ok)) in
+      subst (Reads l (shown s)) (sym (next-is x)) (reads-of t op v (x .step) (x .others) (x .todo) (subst StepKeeps (next-is x) k) (x .room))
+
   ahead : Ahead l (shown s)
   ahead =
+      let y : Ready l (shown s) = toward-ready t in
       record {
         number = omega (arith, toward-fits t b .room, shown-number s);
-        room = λ h. toward-next t (shown-opened s h .is) .room;
-        start = λ h. toward-next t (shown-opened s h .is) .ok;
-        reads = λ h.
+        room = y .room;
+        start = y .start;
+        reads = λ h v. let o = shown-opened s h in reads-by (o .unit) (o .is) (saves-by (o .unit) (o .is) ∙ v);
+        saves = λ h v.
             let o = shown-opened s h in
-            let x = toward-next t (o .is) in
-            let k : StepKeeps (nextStep l (shown s)) = unfold nextStep in keeps-at ((shown s) .done) ((shown s) .unit .0) (plan-keeps _ (x .ok)) in
-            subst (Reads l (shown s)) (sym (next-is x)) (reads-of t (o .is) (x .step) (x .others) (x .todo) (subst StepKeeps (next-is x) k) (x .room));
+            let w : saves (o .unit .start) ≡ true = saves-by (o .unit) (o .is) ∙ v in
+            record {
+              mark = omega (arith, toward-room t, size-least r, shown-at s);
+              laid = y .saving h v;
+              filed = rw (images-on l s (o .unit) (o .is) w (t .holds .anchored (o .unit) (o .is))) (keeps s (o .unit) (t .holds .sound) (o .is) w .filed);
+            };
       }
 
   redone-by : (v : List ℕ) (z : Bool) → (shown s) .opened ≡ z → redone l (shown s) v ≡ repeat (s .number + 1) r v
   unfolding redone
   redone-by v true h =
       let o = shown-opened s h in
-      let x = toward-next t (o .is) in
       pick-true _ _ _ h
-      ∙ ap (λ (n : ℕ). repeat (n + 1) (recordAt l (shown s) (nextStep l (shown s))) v) (shown-number s)
-      ∙ ap (λ (y : Rec). repeat (s .number + 1) y v) (ap (recordAt l (shown s)) (next-is x) ∙ sym (toward-record t (o .is) (x .todo)))
+      ∙ ap (λ (n : ℕ). repeat (n + 1) (pick (savesAt (drop ((shown s) .begin) l)) (savedAt l (shown s)) (recordAt l (shown s) (nextStep l (shown s)))) v) (shown-number s)
+      ∙ ap (λ (y : Rec). repeat (s .number + 1) y v) (sym (record-by (o .unit) (o .is) (saves (o .unit .start)) refl))
+    where
+      record-by : (o : Open) → s .opened ≡ some o → (z : Bool) → saves (o .start) ≡ z
+          → r ≡ pick (savesAt (drop ((shown s) .begin) l)) (savedAt l (shown s)) (recordAt l (shown s) (nextStep l (shown s)))
+      record-by o op true w = toward-saved t op w ∙ sym (pick-true _ _ _ (sym (saves-by o op) ∙ w))
+      record-by o op false w =
+          let x = toward-next t op w in
+          toward-record t op w (x .todo) ∙ sym (pick-false _ _ _ (sym (saves-by o op) ∙ w) ∙ ap (recordAt l (shown s)) (next-is x))
   redone-by v false h =
       pick-false _ _ _ h ∙ sym (ap (λ (y : Rec). repeat (s .number + 1) y v) (toward-begins t (shown-shut s h)) ∙ begin-repeats (s .number + 1) _ v)
 

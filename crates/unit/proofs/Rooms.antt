@@ -12,7 +12,7 @@ use lib.Dec.{eqb}
 use Rattle.field.proofs.Test.{pick-either}
 use Rattle.field.specs.declared.PageNo.{PageNo}
 use Rattle.field.specs.declared.UnitNo.{UnitNo}
-use Rattle.log.specs.Record.{Begin, lengthOf, out}
+use Rattle.log.specs.Record.{Begin, saves, lengthOf, out}
 use Rattle.log.specs.Table.{kindAt, kinds}
 use Rattle.log.specs.Steps.{stepOf}
 use Rattle.log.specs.declared.steps.Planned.{Planned}
@@ -162,6 +162,9 @@ swap-body : (p q a b : ℕ) → Body (swapPlan p q a b)
 unfolding swapPlan isClose
 swap-body p q a b = record { going = on refl (on refl (on refl (on refl (on refl (on refl end))))); few = omega arith }
 
+none-body : Body []
+none-body = record { going = end; few = omega arith }
+
 -- a plan is such steps, and the end
 pub record Plan (g : Begin) : Type 0 where
   pub body : List Step
@@ -174,7 +177,7 @@ plan-body g ok = record {
   body = _;
   is = refl;
   of = pick-either Body (eqb (g .type) 1) _ _ (compact-body _ (g .dest) (g .leaves) (beginOk-limits g ok .leaves))
-      (pick-either Body (eqb (g .type) 2) _ _ (swap-body _ _ _ _) (move-body _ _ (g .dest)));
+      (pick-either Body (eqb (g .type) 2) _ _ (swap-body _ _ _ _) (pick-either Body (saves g) _ _ none-body (move-body _ _ (g .dest))));
 }
 
 -- ---- where the end is

@@ -43,7 +43,7 @@ lowestEmpty low c p (pg ∷ pgs) =
     pick (all (ltb low p ∷ ltb p c ∷ emptyLeaf p pg ∷ [])) p rest
 
 unfoldable pub compactOf : (unit fill : ℕ) → (c : Leaf) → (leaves : List ℕ) → (dest : ℕ) → Begin
-compactOf u fill c leaves dest = record { unit = u; type = 1; fill = fill; bases = c .base ∷ []; leaves = leaves; dest = dest }
+compactOf u fill c leaves dest = record { unit = u; type = 1; fill = fill; bases = c .base ∷ []; leaves = leaves; dest = dest; saved = [] }
 
 unfoldable pub larger : ℕ → ℕ → ℕ
 larger a b = pick (leb a b) b a
@@ -72,11 +72,11 @@ unfoldable pub oneOrTwo : (a b : ℕ) → List ℕ
 oneOrTwo a b = pick (eqb a b) (a ∷ []) (a ∷ b ∷ [])
 
 unfoldable pub moveOf : (unit : ℕ) → (l : Leaf) → (dest : ℕ) → Begin
-moveOf u l dest = record { unit = u; type = 3; fill = 0; bases = l .base ∷ []; leaves = l .at ∷ []; dest = dest }
+moveOf u l dest = record { unit = u; type = 3; fill = 0; bases = l .base ∷ []; leaves = l .at ∷ []; dest = dest; saved = [] }
 
 -- "swap, listing A, the wanted page, then B, the leaf's page"
 unfoldable pub swapOf : (unit : ℕ) → (l : Leaf) → (a baseA : ℕ) → Begin
-swapOf u l a baseA = record { unit = u; type = 2; fill = 0; bases = oneOrTwo baseA (l .base); leaves = a ∷ l .at ∷ []; dest = 0 }
+swapOf u l a baseA = record { unit = u; type = 2; fill = 0; bases = oneOrTwo baseA (l .base); leaves = a ∷ l .at ∷ []; dest = 0; saved = [] }
 
 -- "If its place is empty, move it there; otherwise swap"
 unfoldable pub putInOrder : (unit wanted : ℕ) (ps : List (List ℕ)) (ls : List Leaf) → (l : Leaf) → Begin

@@ -35,6 +35,7 @@ chosen r u =
       bases = take (r .«base_count») (r .bases);
       leaves = take (r .«leaf_count») (r .leaves);
       dest = r .dest .0;
+      saved = [];
     })
 
 -- r is the unit that f gives, whatever its number; the array places beyond the counts are zero

@@ -5,8 +5,12 @@ use mathlib.Core.Path.{_≡_}
 use mathlib.Core.Bool.{Bool}
 use mathlib.Core.List.{List, [], _∷_}
 use mathlib.Core.Option.{Option, some, none}
+use lib.Dec.{leb}
 use Rattle.field.specs.Test.{pick, given, there}
+use Rattle.page.specs.Page.{number}
 use Rattle.page.specs.Change.{isEntry}
+use Rattle.page.specs.Pages.{page, putPage}
+use Rattle.log.specs.Record.{Image}
 use Rattle.log.specs.Log.{listed}
 use Rattle.unit.specs.declared.entry.Lowest.{Lowest}
 use Rattle.unit.specs.declared.entry.Lowest.the-variants.{Nothing, Key}
@@ -29,3 +33,8 @@ pub record Did (o : Option (List ℕ)) (w : List ℕ) (r : Bool) (v : List ℕ) 
 -- what becomes of page p where the pages ps are changed: what f makes of it where it is one of them, else it stays
 unfoldable pub atPage : (ps : List ℕ) → (f : (p : ℕ) → List ℕ → Option (List ℕ)) → (p : ℕ) → List ℕ → Option (List ℕ)
 atPage ps f p pg = pick (listed p ps) (f p pg) (some pg)
+
+-- images laid over the pages w one after the other by an LE numbered n: each over its page where that one's number is lower
+unfoldable pub ended : (n : ℕ) → List Image → (w : List ℕ) → List ℕ
+ended n [] w = w
+ended n (i ∷ is) w = ended n is (putPage (i .at) (pick (leb n (number (page (i .at) w))) (page (i .at) w) (i .bytes)) w)

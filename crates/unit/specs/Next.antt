@@ -1,35 +1,48 @@
 -- Document 01, "Steps": the record that a planned step appends, what a record does to the pages, forward and repeated alike, and the
 -- room that steps need. Assumes nothing.
-use Prim.Native.Nat.{ℕ, _+_}
-use mathlib.Core.Bool.{Bool, true, not}
+use Prim.Native.Nat.{ℕ, _+_, _-_}
+use mathlib.Core.Bool.{Bool, true, false, not}
 use mathlib.Core.List.{List, [], _∷_}
 use mathlib.Core.Option.{Option, some, none}
+use lib.ListN.{length}
 use lib.Dec.{eqb, leb}
 use Rattle.field.specs.Test.{both, pick, when, bind}
 use Rattle.page.specs.Page.{keyOf, toPage, count, number, entries, records, isLeaf}
 use Rattle.page.specs.Change.{emptied, appended, redirected, removed}
 use Rattle.page.specs.Pages.{page, putPage}
-use Rattle.log.specs.Record.{out, into, modify, end, lengthOf, Rec, LB, LO, LI, LM, LE}
+use Rattle.log.specs.Record.{out, into, modify, end, lengthOf, Image, Rec, LB, LO, LI, LM, LG, LE}
 use Rattle.log.specs.Plan.{Step, takeOut, bringIn, point, close}
 use Rattle.log.specs.Log.{taken}
 
 -- ---- what a record does
 
--- the pages that it changes, each once: LO's org, LI's dest, LM's base; none for LB and LE
+-- the pages that images are of
+unfoldable pub placesOf : List Image → List ℕ
+placesOf [] = []
+placesOf (i ∷ is) = i .at ∷ placesOf is
+
+-- the image of page p, where there is one; else the page as it is
+unfoldable pub imageAt : (p : ℕ) → List Image → (pg : List ℕ) → List ℕ
+imageAt p [] pg = pg
+imageAt p (i ∷ is) pg = let rest = imageAt p is pg in pick (eqb (i .at) p) (i .bytes) rest
+
+-- the pages that it changes, each once: LO's org, LI's dest, LM's base, those of LE's images; none for LB and LG
 unfoldable pub targets : Rec → List ℕ
 targets (LB g) = []
 targets (LO org dest rs) = org ∷ []
 targets (LI org dest back rs) = dest ∷ []
 targets (LM base old new key) = base ∷ []
-targets (LE unit) = []
+targets (LG i) = []
+targets (LE unit images) = placesOf images
 
--- what the record numbered n does to page p of these; none is reply 5
+-- what the record numbered n does to page p of these; none is reply 5. "Only LE changes pages, each whose number is lower"
 unfoldable pub change : (n : ℕ) → Rec → (p : ℕ) → List ℕ → Option (List ℕ)
 change n (LB g) p pg = some pg
 change n (LO org dest rs) p pg = emptied n rs pg
 change n (LI org dest back rs) p pg = appended n rs pg
 change n (LM base old new key) p pg = pick (eqb new 0) (removed n key old pg) (redirected n key old new pg)
-change n (LE unit) p pg = some pg
+change n (LG i) p pg = some pg
+change n (LE unit images) p pg = some (pick (leb n (number pg)) pg (imageAt p images pg))
 
 -- the same repeated: "repeats each record whose number exceeds the page's"
 unfoldable pub changeAgain : (n : ℕ) → Rec → (p : ℕ) → List ℕ → Option (List ℕ)
@@ -73,7 +86,8 @@ keyBefore (LB g ∷ did) = none
 keyBefore (LO org dest rs ∷ did) = none
 keyBefore (LI org dest back rs ∷ did) = none
 keyBefore (LM base old new key ∷ did) = some key
-keyBefore (LE unit ∷ did) = none
+keyBefore (LG i ∷ did) = none
+keyBefore (LE unit images ∷ did) = none
 
 -- an entry that may be taken: not the one with this key
 unfoldable pub isOther : (skip : Option ℕ) → (key : ℕ) → Bool
@@ -96,7 +110,7 @@ unfoldable pub nextRec : Step → (did : List Rec) → (pg : List ℕ) → Optio
 nextRec (takeOut org dest) did pg = when (isLeaf pg) (LO org dest (records pg))
 nextRec (bringIn org dest back) did pg = some (LI org dest back (taken back did))
 nextRec (point base old new other) did pg = bind (lowestTo (skipped other did) old (entries pg)) (λ k. some (LM base old new k))
-nextRec (close unit) did pg = some (LE unit)
+nextRec (close unit) did pg = some (LE unit [])
 
 -- ---- room
 

@@ -7,14 +7,15 @@ ghost use Rattle.field.specs.Test.{there};
 ghost use Rattle.log.specs.Plan.{takeOut, bringIn, point};
 ghost use Rattle.log.specs.Log.{readLog};
 ghost use Rattle.log.specs.Steps.{stepOf};
-ghost use Rattle.log.specs.Source.{recordAt};
+ghost use Rattle.log.specs.Source.{recordAt, savedAt};
 ghost use Rattle.unit.specs.Next.{repeat};
 ghost use Rattle.unit.specs.Made.{Did};
-ghost use Rattle.unit.specs.Again.{OutReads, InReads, PointReads, Reads, Ahead, redone, Repeated};
+ghost use Rattle.unit.specs.Again.{OutReads, InReads, PointReads, Reads, SaveReads, Ahead, redone, Repeated};
 use crate::apply;
 use field::LogNo;
 use field::PageNo;
 use log::kind;
+use log::opening;
 use log::past;
 use log::scan;
 use log::scan::Walk;
@@ -72,7 +73,21 @@ fn step_again(work: &mut [u8], log: &[u8], w: Walk, x: Planned) -> bool
     }
 }
 
-// The record at the walk's end: an LB where no unit is open, else the record of the unit's next step.
+// The record of a put or delete at the walk's end: an LG changes no page, and an LE lays the images of the LGs before it.
+fn save_again(work: &mut [u8], log: &[u8], w: Walk) -> bool
+    requires { ⌜ (length (now work) ≡ 16384) × (w .number .0 < 4294967295) × SaveReads (now log) w ⌝ }
+    ensures { λ r. ⌜ Did (repeat (w .number .0 + 1) (savedAt (now (log .entry)) w) (now (work .entry))) (now (work .entry)) r (now (work .exit)) ⌝ }
+{
+    let at = w.at;
+    if log[at + 1] == kind::sign(kind::LG) {
+        return true;
+    }
+    let from = w.begin + kind::size_of(kind::LB, 1);
+    apply::end_all(work, &log[from..], w.done, LogNo(w.number.0 + 1));
+    true
+}
+
+// The record at the walk's end: an LB where no unit is open, else the record of a put or delete, or of the unit's next step.
 fn repeat_at(work: &mut [u8], log: &[u8], w: Walk) -> bool
     requires { ⌜ (length (now work) ≡ 16384) × Ahead (now log) w ⌝ }
     ensures { λ r. ⌜ Did (redone (now (log .entry)) w (now (work .entry))) (now (work .entry)) r (now (work .exit)) ⌝ }
@@ -81,6 +96,9 @@ fn repeat_at(work: &mut [u8], log: &[u8], w: Walk) -> bool
         return true;
     }
     let begin = w.begin;
+    if opening::saves(&log[begin..]) {
+        return save_again(work, log, w);
+    }
     let x = steps::step_at(&log[begin..], w.unit, w.done);
     step_again(work, log, w, x)
 }

@@ -11,13 +11,16 @@ ghost use Rattle.field.specs.Test.{both, all, pick, there};
 ghost use Rattle.field.specs.Bytes.{same};
 ghost use Rattle.page.specs.Page.{rowsOf, joined, ascendRecords, number, entries, records, isBase, isLeaf, isEmpty};
 ghost use Rattle.page.specs.Change.{above};
-ghost use Rattle.page.specs.Pages.{page};
-ghost use Rattle.log.specs.Record.{LO, LI, LM};
+ghost use Rattle.page.specs.Pages.{page, putPage};
+ghost use Rattle.log.specs.Record.{image, lengthOf, LO, LI, LM};
+ghost use Rattle.log.specs.Valid.{Filed};
+ghost use Rattle.log.specs.Scan.{imagesIn};
 ghost use Rattle.unit.specs.Next.{apply, repeat};
-ghost use Rattle.unit.specs.Made.{Did, placeOf};
+ghost use Rattle.unit.specs.Made.{Did, placeOf, ended};
 use crate::entry;
 use field::LogNo;
 use field::PageNo;
+use log::kind;
 use page::form;
 use page::place;
 use page::view;
@@ -167,6 +170,34 @@ fn stamped(w: &[u8], p: PageNo, n: LogNo) -> bool
     ensures { λ r. ⌜ r ≡ leb (n .0) (number (page (p .0) (now (w .entry)))) ⌝ }
 {
     n.0 <= field::get4(w, 256 * (p.0 as usize) + 4)
+}
+
+// An image of an LE numbered n: it is laid over page p, unless that page has its change, or a later one.
+fn end_image(w: &mut [u8], p: PageNo, n: LogNo, image: &[u8])
+    requires { ⌜ (length (now w) ≡ 16384) × (p .0 < 64) × (length (now image) ≡ 256) ⌝ }
+    ensures { λ _. ⌜ now (w .exit) ≡ putPage (p .0) (pick (leb (n .0) (number (page (p .0) (now (w .entry))))) (page (p .0) (now (w .entry))) (now (image .entry))) (now (w .entry)) ⌝ }
+{
+    if stamped(w, p, n) {
+        return;
+    }
+    field::copy(w, 256 * (p.0 as usize), image);
+}
+
+// The LE of a put or delete, made and repeated alike: the images of its k LGs, which stand one behind the other at the front of m.
+pub fn end_all(w: &mut [u8], m: &[u8], k: usize, n: LogNo)
+    requires { ⌜ (length (now w) ≡ 16384) × (lengthOf image 1 * k ≤ length (now m)) × Filed 0 (imagesIn k (now m)) ⌝ }
+    ensures { λ _. ⌜ now (w .exit) ≡ ended (n .0) (imagesIn k (now (m .entry))) (now (w .entry)) ⌝ }
+{
+    let long = kind::size_of(kind::LG, 1);
+    let from = kind::size_of(kind::LG, 0);
+    let mut at: usize = 0;
+    let mut left = k;
+    while 0 < left {
+        let p = PageNo(field::get2(m, at + 12));
+        end_image(w, p, n, &m[at + from..at + long]);
+        at += long;
+        left -= 1;
+    }
 }
 
 // An LO repeated.

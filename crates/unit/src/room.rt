@@ -1,11 +1,11 @@
 // What remains of a unit: its steps are read off its begin record, and an LO to come is counted by its work page.
 ghost use mathlib.Core.Path.{_≡_};
-ghost use mathlib.Core.Bool.{true};
+ghost use mathlib.Core.Bool.{true, false};
 ghost use Prim.Native.Nat.{_+_, _*_, _≤_, _<_};
 ghost use lib.ListN.{length, drop};
 ghost use Rattle.log.specs.Record.{lengthOf, out};
 ghost use Rattle.log.specs.Plan.{plan};
-ghost use Rattle.log.specs.Log.{beginOk, readBegin};
+ghost use Rattle.log.specs.Log.{beginOk, savesAt, readBegin};
 ghost use Rattle.log.specs.Steps.{stepOf};
 ghost use Rattle.unit.specs.Next.{stepSize, room};
 ghost use Rattle.unit.specs.Room.{isClose, Inside};
@@ -75,7 +75,7 @@ fn closes(s: Planned) -> bool
 
 // What remains of the unit whose begin record stands at the front of m, where `done` of its steps are done.
 pub fn remaining(w: &[u8], m: &[u8], unit: UnitNo, done: usize) -> Rest
-    requires { ⌜ (length (now w) ≡ 16384) × (44 ≤ length (now m)) × (beginOk (readBegin (unit .0) (now m)) ≡ true) × (done < length (plan (readBegin (unit .0) (now m)))) ⌝ }
+    requires { ⌜ (length (now w) ≡ 16384) × (44 ≤ length (now m)) × (beginOk (readBegin (unit .0) (now m)) ≡ true) × (done < length (plan (readBegin (unit .0) (now m)))) × (savesAt (now m) ≡ false) ⌝ }
     ensures { λ r. ⌜ (r .bytes ≡ room (now (w .entry)) (drop done (plan (readBegin (unit .0) (now (m .entry)))))) × (r .steps ≡ length (drop done (plan (readBegin (unit .0) (now (m .entry)))))) ⌝ }
 {
     let mut bytes: usize = 0;

@@ -13,6 +13,8 @@
 //! | `C`, `P`, `K`, `G` | fill 4; page 4; clear 1; key 4 |
 //! | `L` | low 4, high 4, room 4 |
 //! | `W` | key 4, room 4: a walk of the range reader |
+//! | `U` | length 4, that many bytes: put |
+//! | `X` | key 4: delete |
 //!
 //! A command that is unknown, cut short or out of its limits ends a script.
 
@@ -28,6 +30,8 @@ use std::io::Read;
 
 /// Most bytes of build's records, and of a room.
 pub const MOST_BYTES: usize = 16_384;
+/// Most bytes of a put's record.
+pub const MOST_RECORD: usize = 64;
 /// What a room is filled with before the call.
 pub const ROOM_FILL: u8 = 170;
 
@@ -69,7 +73,8 @@ pub enum Command {
     Log(Vec<u8>),
     Numbers(Numbers),
     Lengths(Lengths),
-    /// A call with build's records, or with its room as it is before.
+    /// A call with the records of build or put, or with its room as it is
+    /// before.
     Call(Call, Vec<u8>),
     Dump,
 }
@@ -111,7 +116,7 @@ impl Command {
             }
             b'B' => {
                 let [f, g, length] = take_numbers(input)?;
-                let records = take(input, within_most(length)?)?;
+                let records = take(input, within(length, MOST_BYTES)?)?;
                 Command::Call(Call::Build { f, g }, records)
             }
             b'R' => plain(Call::Recover),
@@ -120,6 +125,15 @@ impl Command {
                 plain(Call::BeginCompact { fill })
             }
             b'O' => plain(Call::BeginOrder),
+            b'U' => {
+                let [length] = take_numbers(input)?;
+                let record = take(input, within(length, MOST_RECORD)?)?;
+                Command::Call(Call::Put, record)
+            }
+            b'X' => {
+                let [key] = take_numbers(input)?;
+                plain(Call::Delete { key })
+            }
             b'S' => plain(Call::Step),
             b'P' => {
                 let [page] = take_numbers(input)?;
@@ -136,12 +150,12 @@ impl Command {
             }
             b'L' => {
                 let [low, high, room] = take_numbers(input)?;
-                let room = vec![ROOM_FILL; within_most(room)?];
+                let room = vec![ROOM_FILL; within(room, MOST_BYTES)?];
                 Command::Call(Call::List { low, high }, room)
             }
             b'W' => {
                 let [key, room] = take_numbers(input)?;
-                let room = vec![ROOM_FILL; within_most(room)?];
+                let room = vec![ROOM_FILL; within(room, MOST_BYTES)?];
                 Command::Call(Call::Walk { key }, room)
             }
             b'D' => Command::Dump,
@@ -172,6 +186,8 @@ fn write_call(call: &Call, bytes: &[u8]) -> Vec<u8> {
         Call::Recover => written(b'R', &[], &[]),
         Call::BeginCompact { fill } => written(b'C', &[fill], &[]),
         Call::BeginOrder => written(b'O', &[], &[]),
+        Call::Put => written(b'U', &[length], bytes),
+        Call::Delete { key } => written(b'X', &[key], &[]),
         Call::Step => written(b'S', &[], &[]),
         Call::Flush { page } => written(b'P', &[page], &[]),
         Call::Force => written(b'F', &[], &[]),
@@ -189,8 +205,8 @@ fn written(letter: u8, numbers: &[u32], bytes: &[u8]) -> Vec<u8> {
     written
 }
 
-fn within_most(length: u32) -> Option<usize> {
-    Some(length as usize).filter(|&length| length <= MOST_BYTES)
+fn within(length: u32, most: usize) -> Option<usize> {
+    Some(length as usize).filter(|&length| length <= most)
 }
 
 fn take(input: &mut impl Read, length: usize) -> Option<Vec<u8>> {

@@ -60,7 +60,7 @@ impl Script {
         self.bring(state);
         let kept = std::mem::take(&mut state.bytes);
         let bytes = match call {
-            Call::Build { .. } => kept.clone(),
+            call if call.has_records() => kept.clone(),
             call if call.has_room() => vec![ROOM_FILL; kept.len()],
             _ => Vec::new(),
         };

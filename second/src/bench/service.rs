@@ -59,7 +59,7 @@ impl<'a> Service<'a> {
         ]
     }
 
-    /// Makes one call; `bytes` are build's records or the call's room.
+    /// Makes one call; `bytes` are its records or its room.
     pub fn call(&mut self, call: &Call, bytes: Vec<u8>) -> Answer {
         self.state.bytes = bytes;
         (self.program)(call, &mut self.state)

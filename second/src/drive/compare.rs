@@ -10,7 +10,7 @@ use std::fmt::Write;
 /// What wrote a part of the answer.
 #[derive(Clone, Copy, Debug)]
 enum Writer {
-    /// A call, with the length of build's records or of list's room.
+    /// A call, with the length of its records or of its room.
     Call(Call, usize),
     Dump(Lengths),
     Bad,

@@ -5,9 +5,10 @@
 //!    any calls, cuts at any record and between calls, several in a row, and
 //!    inside a recovery;
 //! 2. each cut: of a compact in its place, the largest one into a new place,
-//!    a move, and a swap under one base page and under two, every number of
-//!    records kept, with no page, all pages and all pages of half-way in the
-//!    store; recovery, and a second cut that keeps half of what it appended;
+//!    a move, a swap under one base page and under two, and a put and a delete
+//!    of every shape, every number of records kept, with no page, all pages
+//!    and all pages of half-way in the store; recovery, and a second cut that
+//!    keeps half of what it appended; and a checkpoint of the whole unit;
 //! 3. tidying: the largest trees compacted until nothing is left, then put in
 //!    order until nothing is left, the log filled up, every page flushed and
 //!    a checkpoint made where it is full, with cuts now and then.
@@ -16,7 +17,7 @@ use super::Made;
 use crate::bench::Script;
 use crate::bytes::PAGE_COUNT;
 use crate::chance::Chance;
-use crate::page::{LEAVES, MOST_ROWS};
+use crate::page::{Row, LEAVES, MOST_ROWS};
 use crate::reply;
 use crate::runs::{self, shape_with};
 use crate::state::{shape, Answer, Call, ShortBase, State};
@@ -49,9 +50,9 @@ pub fn run(seed: u64) -> Made {
 /// A script for each unit, with every cut of it.
 pub fn scripts() -> Vec<Made> {
     let mut all = Vec::new();
-    for (seed, (begin, tree)) in (1..).zip(units()) {
+    for (seed, (begin, start)) in (1..).zip(units()) {
         let mut script = Script::default();
-        let cuts = each_cut(&mut script, begin, &State::made(&shape(tree), 1, 0, None));
+        let cuts = each_cut(&mut script, begin, &start);
         all.push(Made {
             kind: "each-cut",
             seed,
@@ -77,10 +78,21 @@ pub const LARGEST_UNIT: &[ShortBase] = &[(
     ],
 )];
 
-/// What begins a unit of each kind, and on which tree.
-pub fn units() -> [(Call, &'static [ShortBase<'static>]); 5] {
+/// What begins a unit of each kind and shape, and where.
+pub fn units() -> Vec<(Call, State)> {
+    let mut units = tidying_units();
+    units.extend(puts());
+    units.extend(deletes());
+    units
+}
+
+fn made(tree: &[ShortBase]) -> State {
+    State::made(&shape(tree), 1, 0, Some(7))
+}
+
+fn tidying_units() -> Vec<(Call, State)> {
     let compact = Call::BeginCompact { fill: 15 };
-    [
+    let trees: [(Call, &[ShortBase]); 5] = [
         (compact, &[(1, &[(8, 0, &[10, 20]), (9, 30, &[30])])]),
         (compact, LARGEST_UNIT),
         (Call::BeginOrder, &[(2, &[(63, 0, &[10, 20])])]),
@@ -92,7 +104,62 @@ pub fn units() -> [(Call, &'static [ShortBase<'static>]); 5] {
             Call::BeginOrder,
             &[(3, &[(9, 0, &[10, 20])]), (2, &[(8, 30, &[30])])],
         ),
-    ]
+    ];
+    let start = |tree| State::made(&shape(tree), 1, 0, None);
+    trees.map(|(begin, tree)| (begin, start(tree))).into()
+}
+
+/// The keys of a full leaf.
+pub const FULL: &[u32] = &[
+    10, 20, 30, 40, 50, 60, 70, 80, 90, 100, 110, 120, 130, 140, 150,
+];
+
+/// A put that replaces, one that adds, one that splits, the new record in the
+/// lower half, its last, the upper half and at its end, and a first record.
+fn puts() -> Vec<(Call, State)> {
+    let thin = made(&[(1, &[(8, 0, &[10, 20]), (9, 30, &[30])])]);
+    let low = made(&[(3, &[(20, 0, FULL), (21, 200, &[200])])]);
+    let high = made(&[(7, &[(8, 0, FULL), (10, 151, &[u32::MAX])])]);
+    let none = made(&[]);
+    let keys = [
+        (&thin, 20),
+        (&thin, 25),
+        (&thin, 0),
+        (&thin, u32::MAX),
+        (&low, 5),
+        (&low, 75),
+        (&high, 85),
+        (&high, 150),
+        (&high, 155),
+        (&none, u32::MAX),
+    ];
+    let value = [0x5a; 10];
+    let put = |(tree, key): (&State, u32)| (Call::Put, tree.lending(Row { key, value }));
+    keys.map(put).into()
+}
+
+/// A delete that leaves a leaf, and those that empty one: with a neighbour on
+/// its left, as the first entry, and as the only one of a base page with
+/// another on its left, on its right, and of the last one.
+fn deletes() -> Vec<(Call, State)> {
+    let one_base: &[ShortBase] = &[(2, &[(9, 0, &[0]), (8, 30, &[30, 40]), (10, 50, &[55])])];
+    let bases: &[ShortBase] = &[
+        (5, &[(30, 0, &[3])]),
+        (2, &[(9, 20, &[20]), (8, 30, &[30, 40])]),
+        (7, &[(63, 50, &[u32::MAX])]),
+    ];
+    let last: &[ShortBase] = &[(4, &[(11, 0, &[9])])];
+    let trees = [
+        (one_base, 40),
+        (one_base, 55),
+        (one_base, 0),
+        (bases, 20),
+        (bases, u32::MAX),
+        (bases, 3),
+        (last, 9),
+    ];
+    let delete = |(tree, key)| (Call::Delete { key }, made(tree));
+    trees.map(delete).into()
 }
 
 /// Every cut of the unit; returns how many.
@@ -118,6 +185,11 @@ fn each_cut(script: &mut Script, begin: Call, start: &State) -> u64 {
             cuts += 2;
         }
     }
+    // All is in the store: the check record keeps LK.
+    state.done(Call::Force);
+    state.store.clone_from(&state.work);
+    script.call(&Call::Checkpoint { clear: false }, &mut state);
+    script.dump();
     cuts
 }
 
@@ -163,15 +235,15 @@ pub fn largest(chance: &mut Chance) -> State {
     State::made(&shape, 1, 0, None)
 }
 
-struct Tidy {
-    chance: Chance,
-    script: Script,
-    state: State,
-    cuts: u64,
+pub struct Tidy {
+    pub chance: Chance,
+    pub script: Script,
+    pub state: State,
+    pub cuts: u64,
 }
 
 impl Tidy {
-    fn call(&mut self, call: Call) -> u8 {
+    pub fn call(&mut self, call: Call) -> u8 {
         let answer = self.script.call(&call, &mut self.state);
         if self.chance.one_in(DUMPED) {
             self.script.dump();
@@ -191,7 +263,7 @@ impl Tidy {
     }
 
     /// Steps to the unit's end, or a cut and a recovery that goes there.
-    fn finish(&mut self) {
+    pub fn finish(&mut self) {
         while self.call(Call::Step) == reply::DONE {
             match self.chance.within(1, 60) {
                 1..=3 => {
@@ -224,7 +296,7 @@ impl Tidy {
     }
 
     /// Forces, flushes every page and makes a checkpoint.
-    fn settle(&mut self, clear: bool) {
+    pub fn settle(&mut self, clear: bool) {
         self.call(Call::Force);
         for page in 0..PAGE_COUNT as u32 {
             self.call(Call::Flush { page });

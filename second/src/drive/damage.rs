@@ -6,15 +6,16 @@
 //!    range reader from its lower bound on too;
 //! 2. at random: a small state after some calls, then something harmed (a
 //!    bit, a byte, a field, rows or records swapped, lost, doubled or cut,
-//!    zero fields, numbers, garbage after the end, lengths) and any calls on
-//!    it; what is accepted stays for the calls to come.
+//!    images of puts and deletes, zero fields, numbers, garbage after the end,
+//!    lengths) and any calls on it; what is accepted stays for the calls to
+//!    come.
 
 use super::{allowed, numbered, Made, Parts};
 use crate::bench::Script;
 use crate::chance::Chance;
-use crate::harm::{any_call, harm, random_state};
+use crate::harm::{any_call, harm, random_state, some_bytes};
 use crate::reply;
-use crate::state::{record_bytes, Call};
+use crate::state::Call;
 use crate::vectors::{cases, Case};
 
 pub fn scripts(reading: bool) -> Vec<Made> {
@@ -43,9 +44,9 @@ pub fn script(seed: u64) -> Made {
         let mut lent = state.clone();
         harm(&mut chance, &mut lent);
         for _ in 0..chance.within(1, 5) {
-            let count = chance.within(0, 4) as u32;
-            lent.bytes = record_bytes(&(0..count).collect::<Vec<u32>>());
-            let answer = script.call(&any_call(&mut chance), &mut lent);
+            let call = any_call(&mut chance);
+            lent.bytes = some_bytes(&mut chance, &call);
+            let answer = script.call(&call, &mut lent);
             if answer.reply == reply::DONE {
                 state.clone_from(&lent);
             }

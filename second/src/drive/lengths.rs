@@ -5,7 +5,7 @@
 
 use super::{allowed, numbered, Made, Parts};
 use crate::bytes::{LOG_BYTES, PAGES_BYTES};
-use crate::state::{record_bytes, Call, State};
+use crate::state::{record_bytes, row, Call, State};
 
 /// Each call with a state that it accepts.
 fn accepted() -> Vec<(Call, State)> {
@@ -25,6 +25,8 @@ fn accepted() -> Vec<(Call, State)> {
         (Call::Recover, open.clone()),
         (Call::BeginCompact { fill: 4 }, built.clone()),
         (Call::BeginOrder, gap),
+        (Call::Put, built.lending(row(25))),
+        (Call::Delete { key: 30 }, built.clone()),
         (Call::Step, open),
         (Call::Flush { page: 8 }, built.clone()),
         (Call::Force, built.clone()),

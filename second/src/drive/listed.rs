@@ -5,7 +5,8 @@
 //! 2. a unit of each kind cut after each of its records, so that recovery
 //!    finishes it before anything is listed;
 //! 3. the largest trees, and none;
-//! 4. random states as they stand on the chip, every second one damaged.
+//! 4. what every vector of a recovery is lent: each of its replies;
+//! 5. random states as they stand on the chip, every second one damaged.
 
 use super::cuts;
 use super::program::run;
@@ -13,7 +14,8 @@ use crate::chance::Chance;
 use crate::harm::{harm, random_state};
 use crate::listing::listing;
 use crate::reply;
-use crate::state::{shape, Call, State};
+use crate::state::{Call, State};
+use crate::vectors::{cases, Case};
 use std::collections::BTreeMap;
 use std::io;
 
@@ -65,13 +67,20 @@ fn image(state: &State) -> Vec<u8> {
 
 fn images() -> Vec<Vec<u8>> {
     let mut all = lengths();
-    for (begin, tree) in cuts::units() {
-        all.extend(half_done(begin, State::made(&shape(tree), 1, 0, None)));
+    for (begin, start) in cuts::units() {
+        all.extend(half_done(begin, start));
     }
     all.push(image(&State::built(&[], 1, 1)));
     for seed in 1..=LARGEST {
         all.push(image(&cuts::largest(&mut Chance::new(seed))));
     }
+    let recovered = |case: &&Case| case.call == Call::Recover;
+    all.extend(
+        cases()
+            .iter()
+            .filter(recovered)
+            .map(|case| image(&case.state)),
+    );
     for seed in 1..=RANDOM {
         let mut chance = Chance::new(seed);
         let mut state = random_state(&mut chance);

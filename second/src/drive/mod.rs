@@ -17,6 +17,7 @@ mod listed;
 mod program;
 mod reading;
 mod rows;
+mod saves;
 mod scripts;
 
 pub use cuts::LARGEST_UNIT;
@@ -97,10 +98,11 @@ fn shares(reading: bool) -> &'static [(Maker, u64)] {
         &[(reading::script, 100)]
     } else {
         &[
-            (cuts::run, 45),
-            (cuts::tidying, 15),
+            (cuts::run, 40),
+            (cuts::tidying, 12),
+            (saves::script, 15),
             (damage::script, 20),
-            (reading::script, 20),
+            (reading::script, 13),
         ]
     }
 }

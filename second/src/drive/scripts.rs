@@ -8,7 +8,7 @@
 //! 5. a script of some megabytes.
 
 use super::{allowed, numbered, Made};
-use crate::bench::{Command, Lengths, Script, MOST_BYTES};
+use crate::bench::{Command, Lengths, Script, MOST_BYTES, MOST_RECORD};
 use crate::bytes::{put32, Numbers, LOG_BYTES, PAGES_BYTES};
 use crate::state::{record_bytes, Call, State};
 
@@ -61,6 +61,8 @@ fn commands(reading: bool) -> Vec<Command> {
     let calls = [
         (Call::Build { f: 1, g: 1 }, record_bytes(&[1, 2])),
         (Call::BeginCompact { fill: 1 }, Vec::new()),
+        (Call::Put, record_bytes(&[25])),
+        (Call::Delete { key: 20 }, Vec::new()),
         (Call::Flush { page: 1 }, Vec::new()),
         (Call::Checkpoint { clear: true }, Vec::new()),
         (Call::Find { key: 1 }, Vec::new()),
@@ -110,6 +112,10 @@ fn limits(reading: bool) -> Vec<Vec<u8>> {
     at_limits.push((room.write(), 9, MOST_BYTES as u32));
     at_limits.push((walk.write(), 5, MOST_BYTES as u32));
     at_limits.push((records.write(), 9, MOST_BYTES as u32));
+    if allowed("put", reading) {
+        let put = Command::Call(Call::Put, record_bytes(&[5, 6, 7, 8]));
+        at_limits.push((put.write(), 1, MOST_RECORD as u32));
+    }
     let mut all = Vec::new();
     for (written, at, limit) in at_limits {
         all.push(between(&written));

@@ -226,6 +226,8 @@ impl Cases {
             Call::Recover,
             COMPACT,
             Call::BeginOrder,
+            Call::Put,
+            Call::Delete { key: 10 },
             Call::Step,
             Call::Flush { page: 8 },
             Call::Checkpoint { clear: false },

@@ -3,7 +3,7 @@
 //! states are small, since the other program may pay for every byte.
 //!
 //! A line has 17 fields with `;` between them: label, call, arguments, used,
-//! forced, work, store, log, bytes (build's records, list's out), then reply,
+//! forced, work, store, log, bytes (build's and put's records, list's out), then reply,
 //! values, and the two numbers and four buffers after the call. A buffer that
 //! is not lent is `-`, one that the call left as it was is `=`; otherwise it
 //! is chunks with spaces between them: `zN` N zero bytes, `eN` N empty pages
@@ -11,6 +11,7 @@
 
 mod fields;
 mod plain;
+mod saves;
 mod steps;
 mod units;
 
@@ -21,7 +22,8 @@ use crate::log::{Begin, Record, Type};
 use crate::page::{Body, Entry, Row};
 use crate::runs::random_shape;
 use crate::state::{
-    put_page, record_bytes, row, shape, BaseShape, Call, LeafShape, ShortBase, State, Values,
+    put_page, record_bytes, row, row_bytes, shape, BaseShape, Call, LeafShape, ShortBase, State,
+    Values,
 };
 
 /// A call with the state it is made on.
@@ -65,6 +67,12 @@ pub fn cases() -> Vec<Case> {
     cases.flushes();
     cases.lengths();
     cases.first_tests();
+    cases.saves();
+    cases.saves_refused();
+    cases.saves_cut();
+    cases.saves_forged();
+    cases.saves_images();
+    cases.saves_fields();
     cases.random();
     cases.0
 }
@@ -121,8 +129,8 @@ fn arguments(call: &Call) -> String {
         Call::Checkpoint { clear } => (clear as u8).to_string(),
         Call::Find { key } => key.to_string(),
         Call::List { low, high } => format!("{low} {high}"),
-        Call::Walk { key } => key.to_string(),
-        Call::Recover | Call::BeginOrder | Call::Step | Call::Force => String::new(),
+        Call::Walk { key } | Call::Delete { key } => key.to_string(),
+        Call::Recover | Call::BeginOrder | Call::Put | Call::Step | Call::Force => String::new(),
     }
 }
 
@@ -232,6 +240,7 @@ fn compact(unit: u32, base: u16, leaves: &[u16], destination: u16) -> Record {
         bases: vec![base],
         leaves: leaves.to_vec(),
         destination,
+        row: None,
     })
 }
 

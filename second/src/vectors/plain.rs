@@ -178,6 +178,8 @@ impl Cases {
             Call::Recover,
             COMPACT,
             Call::BeginOrder,
+            Call::Put,
+            Call::Delete { key: 0 },
             Call::Step,
             Call::Flush { page: 0 },
             Call::Force,

@@ -1,10 +1,12 @@
 -- `beginning::begin_compact` meets its contract: a law for each of its answers. Assumes nothing.
 use native.Mathlib.Omega.{arith}
+use mathlib.Core.List.{[]}
 use mathlib.Core.Path.{sym, _∙_}
 use borrow.Author.Tests.{not-true, not-false}
 use Rattle.field.specs.Bytes.{Bytes}
 use Rattle.beginning.proofs.Units.{compact-writable}
-use Rattle.beginning.proofs.Begins.{ready-facts, compact-is, compact-fill, compact-with, begin-work, begin-log, begin-form, begin-inside}
+use Rattle.starting.proofs.Asked.{begin-work, begin-log, begin-form, begin-inside}
+use Rattle.beginning.proofs.Begins.{ready-facts, compact-is, compact-fill, compact-with}
 use Rattle.beginning.proofs.Begins.{begin-tests, begin-nothing, begin-goes}
 use borrow.Author.Needs.{needs}
 use Rattle.beginning.proofs.begin_compact.Statement.{statement}
@@ -14,14 +16,14 @@ kept-requires : tie.Need-kept-requires
 kept-requires c κs = search needs
 
 returns : tie.Need-returns
-returns c = begin-work _ _ _ _ _ _ (compact-is _ _ _ _ _) _ _ _ (c .kept .ensures) (c .before .if1 .taken)
+returns c = begin-work _ _ _ _ _ _ _ (compact-is _ _ _ _ _) _ _ _ (c .kept .ensures) (c .before .if1 .taken)
 
 kept-requires-2 : tie.Need-kept-requires-2
 kept-requires-2 c κs = search needs
 
 returns-2 : tie.Need-returns-2
 returns-2 c =
-    begin-log _ _ _ _ _ _ (compact-is _ _ _ _ _) _ _ _ (c .kept2 .ensures) (c .before .before .if1 .left) (c .before .if2 .taken)
+    begin-log _ _ _ _ _ _ _ (compact-is _ _ _ _ _) _ _ _ (c .kept2 .ensures) (c .before .before .if1 .left) (c .before .if2 .taken)
 
 scan-log-requires : tie.Need-scan-log-requires
 scan-log-requires c κs = search needs
@@ -40,7 +42,7 @@ returns-3 c =
     let k = c .before .before in
     let s = k .before in
     let l = s .before .before in
-    begin-form _ _ _ _ _ _ (compact-is _ _ _ _ _) (l .before .if1 .left) (l .if2 .left) _ (s .scan-log .ensures) _ _ _ (c .kept3 .ensures)
+    begin-form _ _ _ _ _ _ _ (compact-is _ _ _ _ _) (l .before .if1 .left) (l .if2 .left) _ (s .scan-log .ensures) _ _ _ (c .kept3 .ensures)
     (sym (k .knows .ensures) ∙ not-true _ (c .before .if3 .taken))
 
 kept-requires-4 : tie.Need-kept-requires-4
@@ -129,7 +131,7 @@ begun-requires c κs =
     let y : Bytes w = λ j. omega (arith, l .before .before .before .shared-slice-known .given j) in (
       a,
       b,
-      begin-inside _ _ w _ a b _ (s .scan-log .ensures) n,
+      begin-inside _ _ w _ [] b _ (s .scan-log .ensures) n,
       compact-writable _ (record { whole = a; bytes = y; form = t .0; tree = t .1 }) _ (not-false _ (p .if6 .left)) _ _ (f .if4 .left) (q .choose-compact .ensures),
     )
 

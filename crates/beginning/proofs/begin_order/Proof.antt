@@ -1,10 +1,12 @@
 -- `beginning::begin_order` meets its contract: a law for each of its answers. Assumes nothing.
 use native.Mathlib.Omega.{arith}
+use mathlib.Core.List.{[]}
 use mathlib.Core.Path.{sym, _∙_}
 use borrow.Author.Tests.{not-true, not-false}
 use Rattle.field.specs.Bytes.{Bytes}
 use Rattle.beginning.proofs.Units.{order-writable}
-use Rattle.beginning.proofs.Begins.{ready-facts, order-is, order-with, begin-work, begin-log, begin-form, begin-inside, begin-tests, begin-nothing, begin-goes}
+use Rattle.starting.proofs.Asked.{begin-work, begin-log, begin-form, begin-inside}
+use Rattle.beginning.proofs.Begins.{ready-facts, order-is, order-with, begin-tests, begin-nothing, begin-goes}
 use borrow.Author.Needs.{needs}
 use Rattle.beginning.proofs.begin_order.Statement.{statement}
 use Rattle.beginning.proofs.begin_order.Tie as tie
@@ -13,14 +15,14 @@ kept-requires : tie.Need-kept-requires
 kept-requires c κs = search needs
 
 returns : tie.Need-returns
-returns c = begin-work _ _ _ _ _ _ (order-is _ _ _ _) _ _ _ (c .kept .ensures) (c .before .if1 .taken)
+returns c = begin-work _ _ _ _ _ _ _ (order-is _ _ _ _) _ _ _ (c .kept .ensures) (c .before .if1 .taken)
 
 kept-requires-2 : tie.Need-kept-requires-2
 kept-requires-2 c κs = search needs
 
 returns-2 : tie.Need-returns-2
 returns-2 c =
-    begin-log _ _ _ _ _ _ (order-is _ _ _ _) _ _ _ (c .kept2 .ensures) (c .before .before .if1 .left) (c .before .if2 .taken)
+    begin-log _ _ _ _ _ _ _ (order-is _ _ _ _) _ _ _ (c .kept2 .ensures) (c .before .before .if1 .left) (c .before .if2 .taken)
 
 scan-log-requires : tie.Need-scan-log-requires
 scan-log-requires c κs = search needs
@@ -39,7 +41,7 @@ returns-3 c =
     let k = c .before .before in
     let s = k .before in
     let l = s .before .before in
-    begin-form _ _ _ _ _ _ (order-is _ _ _ _) (l .before .if1 .left) (l .if2 .left) _ (s .scan-log .ensures) _ _ _ (c .kept3 .ensures)
+    begin-form _ _ _ _ _ _ _ (order-is _ _ _ _) (l .before .if1 .left) (l .if2 .left) _ (s .scan-log .ensures) _ _ _ (c .kept3 .ensures)
     (sym (k .knows .ensures) ∙ not-true _ (c .before .if3 .taken))
 
 unready-requires : tie.Need-unready-requires
@@ -109,7 +111,7 @@ begun-requires c κs =
     let y : Bytes w = λ j. omega (arith, l .before .before .before .shared-slice-known .given j) in (
       a,
       b,
-      begin-inside _ _ w _ a b _ (s .scan-log .ensures) n,
+      begin-inside _ _ w _ [] b _ (s .scan-log .ensures) n,
       order-writable _ (record { whole = a; bytes = y; form = t .0; tree = t .1 }) _ (not-false _ (p .if5 .left)) (q .choose-order .ensures),
     )
 

@@ -1,6 +1,7 @@
 -- `starting::needed` meets its contract: the LB that is written is read as the unit. Assumes nothing.
 use native.Mathlib.Omega.{arith}
-use mathlib.Core.Path.{refl}
+use mathlib.Core.Path.{refl, sym, _∙_}
+use Rattle.log.proofs.Held.{saves-of}
 use Rattle.starting.proofs.Units.{read-back, plan-some}
 use borrow.Author.Needs.{needs}
 use Rattle.starting.proofs.needed.Statement.{statement}
@@ -20,7 +21,7 @@ remaining-requires c κs =
     let a = c .before .before .before .before .before in
     let p = c .before .before .put-record in
     let r = read-back (a .args .c) _ (p .last .0) (a .pre .1) refl (p .ensures) in
-    (a .pre .0, omega (arith, p .kept .0), rw r (a .pre .1 .ok), rw r (plan-some _))
+    (a .pre .0, omega (arith, p .kept .0), rw r (a .pre .1 .ok), rw r (plan-some _), sym (saves-of 0 (p .last .0)) ∙ rw r (a .pre .1 .plain))
 
 returns : tie.Need-returns
 returns c =

@@ -1,14 +1,9 @@
 -- `stepping::step` meets its contract: a law for each of its answers. Assumes nothing.
 use native.Mathlib.Omega.{arith}
 use mathlib.Core.Path.{_≡_, sym, _∙_}
-use lib.ListN.{length-drop}
 use borrow.Author.Tests.{not-true, not-false}
-use borrow.Rule.Slice.PartAt.{part-to-end}
-use Rattle.log.specs.Steps.{stepOf}
 use Rattle.log.proofs.Toward.{turned-ok}
-use Rattle.unit.specs.Again.{nextStep}
-use Rattle.forward.proofs.Stands.{begin-room, begin-ok, step-read}
-use Rattle.stepping.proofs.Steps.{step-no-work, step-no-log, step-no-form, step-no-unit, Past, past-opened, past-stands, past-target}
+use Rattle.stepping.proofs.Steps.{step-no-work, step-no-log, step-no-form, step-no-unit, Past, past-opened, past-ends}
 use Rattle.stepping.proofs.Steps.{step-no-page, Stepped, went-on, end-is, step-stops, step-steps}
 use borrow.Author.Needs.{needs}
 use Rattle.stepping.proofs.step.Statement.{statement}
@@ -32,21 +27,15 @@ past c =
       log-bytes = λ i. omega (arith, b .slice-known2 .given i);
     }
 
--- the unit's next step
-next-step : (c : tie.After-step-at) → let c9 = c .before .before .before .before .before .before .before .before .before in
-    let c15 = c9 .before .before .before .before .before .before in
-    nextStep (c15 .args .log .now) (c9 .scan-log .result .walk) ≡ stepOf (c .step-at .result)
-next-step c = step-read _ _ _ (c .step-at .ensures)
-
--- the step was made
+-- the record was appended
 made : (c : tie.Else6) → let c5 = c .before .before .before .before .before in
-    let c19 = c5 .before .before .before .before .before .before .before .before .before .before .before .before .before .before in
-    let c25 = c19 .before .before .before .before .before .before in
-    Stepped (c25 .args .work .now) (c25 .args .log .now) (c19 .scan-log .result .walk) (c5 .append .last .0) (c5 .append .last .1 .0)
+    let c17 = c5 .before .before .before .before .before .before .before .before .before .before .before .before in
+    let c23 = c17 .before .before .before .before .before .before in
+    Stepped (c23 .args .work .now) (c23 .args .log .now) (c17 .scan-log .result .walk) (c5 .append .last .0) (c5 .append .last .1 .0)
 made c =
-    let x = c .before .before .before .before .before .before .before .before .before .before in
-    let p = past (x .before .before .before .before) in
-    went-on _ (past-stands p) _ (next-step x) (p .long) (p .work-bytes) (p .log-bytes) _ _ _ (c .before .before .before .before .before .append .ensures) (c .if6 .left)
+    let a = c .before .before .before .before .before in
+    let p = past (a .before .before .before .before .before .before .before) in
+    went-on _ (past-ends p) (p .whole) (p .long) (p .work-bytes) (p .log-bytes) _ _ _ (a .append .ensures) (c .if6 .left)
 
 kept-requires : tie.Need-kept-requires
 kept-requires c κs = search needs
@@ -93,22 +82,8 @@ returns-4 c =
     step-no-unit _ _ _ _ _ _ _ (c .kept4 .ensures) (e .before .if1 .left) (e .if2 .left) _ (k .before .scan-log .ensures)
     (sym (k .knows .ensures) ∙ not-false _ (h .if3 .left)) (not-true _ (c .before .if4 .taken))
 
-sub-step-at : tie.Need-sub-step-at
-sub-step-at c = omega (arith, begin-room (past-stands (past (c .before))))
-
-part-step-at-start : tie.Need-part-step-at-start
-part-step-at-start c = omega (arith, begin-room (past-stands (past (c .before .before))))
-
-part-step-at-end : tie.Need-part-step-at-end
-part-step-at-end c = search needs
-
-step-at-requires : tie.Need-step-at-requires
-step-at-requires c κs =
-    let s = past-stands (past (c .before .before .before)) in
-    (rw (part-to-end, length-drop) (omega (arith, begin-room s)), rw part-to-end (begin-ok s))
-
-target-formed-requires : tie.Need-target-formed-requires
-target-formed-requires c κs = let p = past (c .before .before .before .before) in (p .whole, past-target p _ (next-step c))
+next-formed-requires : tie.Need-next-formed-requires
+next-formed-requires c κs = let p = past (c .before .before) in (p .whole, past-opened p)
 
 kept-requires-5 : tie.Need-kept-requires-5
 kept-requires-5 c κs = search needs
@@ -121,11 +96,11 @@ same-length-4 c = search needs
 
 returns-5 : tie.Need-returns-5
 returns-5 c =
-    let x = c .before .before .before in
-    step-no-page (past (x .before .before .before .before)) _ (next-step x) _ (c .before .before .target-formed .ensures) (c .before .if5 .taken) _ _ _ (c .kept5 .ensures)
+    let f = c .before .before in
+    step-no-page (past (f .before .before .before)) _ (f .next-formed .ensures) (c .before .if5 .taken) _ _ _ (c .kept5 .ensures)
 
 append-requires : tie.Need-append-requires
-append-requires c κs = let p = past (c .before .before .before .before .before .before .before .before) in (p .whole, p .long, past-opened p)
+append-requires c κs = let p = past (c .before .before .before .before .before .before) in (p .whole, p .long, past-opened p)
 
 kept-requires-6 : tie.Need-kept-requires-6
 kept-requires-6 c κs = search needs
@@ -140,15 +115,14 @@ returns-6 : tie.Need-returns-6
 returns-6 c =
     let a = c .before .before .before .before .before .before in
     let e = a .before .before .before in
-    let x = e .before .before in
-    step-stops (past (x .before .before .before .before)) _ (next-step x) _ (e .before .target-formed .ensures) (e .if5 .left) _ _ _ (a .append .ensures)
-    (c .before .if6 .taken) _ _ _ (c .kept6 .ensures)
+    let f = e .before in
+    step-stops (past (f .before .before .before)) _ (f .next-formed .ensures) (e .if5 .left) _ _ _ (a .append .ensures) (c .before .if6 .taken) _ _ _ (c .kept6 .ensures)
 
 past-requires : tie.Need-past-requires
 past-requires c κs = let m = made (c .before) in (m .ready, turned-ok _ _ (m .state) (m .shows))
 
-cast-t26 : tie.Need-cast-t26
-cast-t26 c = record { fits = omega (arith, end-is (made (c .before .before .before)) _ (c .before .past .ensures), made (c .before .before .before) .inside) }
+cast-t23 : tie.Need-cast-t23
+cast-t23 c = record { fits = omega (arith, end-is (made (c .before .before .before)) _ (c .before .past .ensures), made (c .before .before .before) .inside) }
 
 same-length-7 : tie.Need-same-length-7
 same-length-7 c = search needs
@@ -160,8 +134,8 @@ returns-7 : tie.Need-returns-7
 returns-7 c =
     let m = c .before .before .before in
     let e = m .before .before .before .before .before .before .before .before in
-    let x = e .before .before in
-    step-steps (past (x .before .before .before .before)) _ (next-step x) _ (e .before .target-formed .ensures) (e .if5 .left) _ _ (made m) _ (c .before .past .ensures)
+    let f = e .before in
+    step-steps (past (f .before .before .before)) _ (f .next-formed .ensures) (e .if5 .left) _ _ (made m) _ (c .before .past .ensures)
 
 pub step-spec : {M : Type 1} → statement M
 step-spec =
@@ -179,11 +153,7 @@ step-spec =
     kept-requires-4
     same-length-2
     returns-4
-    sub-step-at
-    part-step-at-start
-    part-step-at-end
-    step-at-requires
-    target-formed-requires
+    next-formed-requires
     kept-requires-5
     same-length-3
     same-length-4
@@ -194,7 +164,7 @@ step-spec =
     same-length-6
     returns-6
     past-requires
-    cast-t26
+    cast-t23
     same-length-7
     same-length-8
     returns-7)

@@ -24,7 +24,7 @@ part-remaining-end c = search needs
 remaining-requires : tie.Need-remaining-requires
 remaining-requires c κs =
     let s = unit-open (c .before) in
-    (c .before .before .before .pre .0, rw (part-to-end, length-drop) (omega (arith, begin-room s)), rw part-to-end (begin-ok s), rw part-to-end (done-less s))
+    (c .before .before .before .pre .0, rw (part-to-end, length-drop) (omega (arith, begin-room s)), rw part-to-end (begin-ok s), rw part-to-end (done-less s), rw part-to-end (c .before .before .before .pre .2 .plain))
 
 sub-if1 : tie.Need-sub-if1
 sub-if1 c = at-inside (unit-open (c .before .before .before))

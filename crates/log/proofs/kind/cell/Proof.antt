@@ -5,6 +5,9 @@ use borrow.Author.Needs.{needs}
 use Rattle.log.proofs.kind.cell.Statement.{statement}
 use Rattle.log.proofs.kind.cell.Tie as tie
 
+mul-result : tie.Need-mul-result
+mul-result c = search needs
+
 array-read-result : tie.Need-array-read-result
 array-read-result c = search needs
 
@@ -13,4 +16,4 @@ unfolding kinds tabled
 returns c = refl
 
 pub cell-spec : {M : Type 1} → statement M
-cell-spec = tie.close (tie.spec array-read-result returns)
+cell-spec = tie.close (tie.spec mul-result array-read-result returns)

@@ -1,14 +1,18 @@
 -- `log::past::past` meets its contract: a law for each sign. Assumes nothing.
-use Prim.Native.Nat.{_+_, _-_}
+use Prim.Native.Nat.{_+_, _-_, _≤_, _<_}
 use native.Mathlib.Omega.{arith}
 use mathlib.Core.Path.{_≡_, sym, _∙_}
 use mathlib.Core.Bool.{true}
 use lib.ListN.{length, drop, getD, length-drop}
 use lib.Dec.{eqb}
 use borrow.Rule.Slice.PartAt.{part-to-end}
+use Rattle.field.specs.Test.{pick}
+use Rattle.log.specs.Record.{begin, lengthOf}
+use Rattle.log.specs.Log.{savesAt}
 use Rattle.log.specs.Table.{kinds, kindAt}
-use Rattle.log.specs.Scan.{ended, turned}
-use Rattle.log.proofs.Signs.{Way, way-past}
+use Rattle.log.specs.Scan.{begun, ended, turned}
+use Rattle.log.proofs.Begun.{one-most}
+use Rattle.log.proofs.Signs.{Way, begin-room-fixed, way-past}
 use borrow.Author.Needs.{needs}
 use Rattle.log.proofs.past.past.Statement.{statement}
 use Rattle.log.proofs.past.past.Tie as tie
@@ -27,18 +31,20 @@ rest : (c : tie.After-sign) → let a = entry c .args in length (drop (a .w .at)
 rest c = let a = entry c .args in length-drop (a .w .at) (a .l .now)
 
 -- no other sign: it is an LE
-last : (c : tie.Else4) → let a = entry (c .before .before .before .before .before .before .before) .args in
+last : (c : tie.Else5) → let a = entry (c .before .before .before .before .before .before .before .before .before) .args in
     (a .w .opened ≡ true) × (turned (a .l .now) (a .w) ≡ ended (a .w) (eqb (getD (a .l .now) (a .w .begin + 16) 0) 1))
 unfolding kindAt kinds
 last c =
-    let third = c .before .before in
+    let fourth = c .before .before in
+    let third = fourth .before .before in
     let second = third .before .before in
     let first = second .before .before in
     on (first .before) .ends
     (λ q. first .if1 .left (q ∙ sym (first .before .sign .ensures)))
     (λ q. second .if2 .left (q ∙ sym (second .before .sign2 .ensures)))
     (λ q. third .if3 .left (q ∙ sym (third .before .sign3 .ensures)))
-    (λ q. c .if4 .left (q ∙ sym (c .before .sign4 .ensures)))
+    (λ q. fourth .if4 .left (q ∙ sym (fourth .before .sign4 .ensures)))
+    (λ q. c .if5 .left (q ∙ sym (c .before .sign5 .ensures)))
 
 add-sign : tie.Need-add-sign
 add-sign c = search needs
@@ -120,31 +126,65 @@ returns-3 c =
 sign-requires-4 : tie.Need-sign-requires-4
 sign-requires-4 c κs = search needs
 
-begun-requires : tie.Need-begun-requires
-unfolding kindAt kinds
-begun-requires c κs =
+imaged-requires : tie.Need-imaged-requires
+unfolding kindAt kinds lengthOf
+imaged-requires c κs =
     let k = c .before .before .before .before .before .before .before in
-    let x = on k .begins (c .if4 .taken ∙ c .before .sign4 .ensures) in
-    (on k .number, x .1, omega (arith, x .0, rest k))
+    let x = on k .draws (c .if4 .taken ∙ c .before .sign4 .ensures) in
+    (on k .number, omega (arith, x .0, rest k), entry k .pre .0 .steps)
 
 returns-4 : tie.Need-returns-4
 unfolding kindAt kinds
 returns-4 c =
     let k = c .before .before .before .before .before .before .before .before in
-    let x = on k .begins (c .before .if4 .taken ∙ c .before .before .sign4 .ensures) in
-    c .begun .ensures ∙ sym (x .2)
+    let x = on k .draws (c .before .if4 .taken ∙ c .before .before .sign4 .ensures) in
+    c .imaged .ensures ∙ sym (x .1)
 
-add-ended : tie.Need-add-ended
-add-ended c = omega (arith, entry (c .before .before .before .before .before .before .before) .pre .0 .room (last c .0))
+sign-requires-5 : tie.Need-sign-requires-5
+sign-requires-5 c κs = search needs
 
-shared-slice-read-ended : tie.Need-shared-slice-read-ended
-shared-slice-read-ended c = omega (arith, entry (c .before .before .before .before .before .before .before .before) .pre .0 .room (last (c .before) .0))
+-- an LB, with the record that it may carry
+starts : (c : tie.Then5) → let a = entry (c .before .before .before .before .before .before .before .before .before) .args in
+    (lengthOf begin (pick (savesAt (drop (a .w .at) (a .l .now))) 1 0) ≤ length (drop (a .w .at) (a .l .now))) × (a .w .unit .0 < 4294967295)
+    × (turned (a .l .now) (a .w) ≡ begun (a .w) (pick (savesAt (drop (a .w .at) (a .l .now))) 1 0))
+unfolding kindAt kinds
+starts c = on (c .before .before .before .before .before .before .before .before .before) .begins (c .if5 .taken ∙ c .before .sign5 .ensures)
 
-ended-requires : tie.Need-ended-requires
-ended-requires c κs = let k = c .before .before .before .before .before .before .before .before in (on k .number, omega (arith, on k .room, rest k))
+sub-carried : tie.Need-sub-carried
+sub-carried c = search needs
+
+part-carried-start : tie.Need-part-carried-start
+part-carried-start c = search needs
+
+part-carried-end : tie.Need-part-carried-end
+part-carried-end c = search needs
+
+carried-requires : tie.Need-carried-requires
+carried-requires c κs = rw part-to-end (begin-room-fixed _ _ (starts (c .before) .0))
+
+begun-requires : tie.Need-begun-requires
+begun-requires c κs =
+    let b = c .before .before in
+    let k = c .before .before .before .before .before .before .before .before .before .before .before in
+    let e = rw part-to-end at (c .carried .ensures) in
+    (one-most _ _ e, on k .number, starts b .1, rw e (omega (arith, starts b .0, rest k)))
 
 returns-5 : tie.Need-returns-5
-returns-5 c = c .ended .ensures ∙ sym (last (c .before .before) .1)
+returns-5 c =
+    let b = c .before .before .before in
+    c .begun .ensures ∙ rw (rw part-to-end at (c .before .carried .ensures)) (sym (starts b .2))
+
+add-ended : tie.Need-add-ended
+add-ended c = omega (arith, entry (c .before .before .before .before .before .before .before .before .before) .pre .0 .room (last c .0))
+
+shared-slice-read-ended : tie.Need-shared-slice-read-ended
+shared-slice-read-ended c = omega (arith, entry (c .before .before .before .before .before .before .before .before .before .before) .pre .0 .room (last (c .before) .0))
+
+ended-requires : tie.Need-ended-requires
+ended-requires c κs = let k = c .before .before .before .before .before .before .before .before .before .before in (on k .number, omega (arith, on k .room, rest k))
+
+returns-6 : tie.Need-returns-6
+returns-6 c = c .ended .ensures ∙ sym (last (c .before .before) .1)
 
 pub past-spec : {M : Type 1} → statement M
 past-spec =
@@ -168,9 +208,16 @@ past-spec =
     pointed-requires
     returns-3
     sign-requires-4
-    begun-requires
+    imaged-requires
     returns-4
+    sign-requires-5
+    sub-carried
+    part-carried-start
+    part-carried-end
+    carried-requires
+    begun-requires
+    returns-5
     add-ended
     shared-slice-read-ended
     ended-requires
-    returns-5)
+    returns-6)

@@ -1,6 +1,7 @@
 -- `log::reading::is_end` meets its contract. Assumes nothing.
 use Prim.Native.Nat.{_-_, _≤_}
 use native.Mathlib.Omega.{arith}
+use mathlib.Core.List.{[]}
 use lib.ListN.{length}
 use mathlib.Core.Path.{_∙_}
 use Rattle.log.specs.Record.{lengthOf}
@@ -21,7 +22,7 @@ sub-if1 c = search needs
 returns : tie.Need-returns
 returns c =
     let a = c .before .before .before in
-    stand-short (a .args .n .0) (LE (a .args .unit .0)) (a .args .l .now) (a .args .at) (c .before .size-of .result) (c .before .size-of .ensures ∙ end-long _) (c .if1 .taken)
+    stand-short (a .args .n .0) (LE (a .args .unit .0) []) (a .args .l .now) (a .args .at) (c .before .size-of .result) (c .before .size-of .ensures ∙ end-long _) (c .if1 .taken)
 
 slice-aggregate-put-end : tie.Need-slice-aggregate-put-end
 slice-aggregate-put-end c = search needs
@@ -42,7 +43,7 @@ returns-2 c =
     let room = c .before .before .before .before .before in
     let a = room .before .before .before .args in
     let k : a .n .0 ≤ 4294967295 = omega arith in
-    search (stand-rest! (a .n .0) (LE (a .unit .0)) (a .l .now) (a .at) _ (room .before .size-of .ensures ∙ end-long _) Each.nil k (room .if1 .left))
+    search (stand-rest! (a .n .0) (LE (a .unit .0) []) (a .l .now) (a .at) _ (room .before .size-of .ensures ∙ end-long _) Each.nil k (room .if1 .left))
 
 pub is-end-spec : {M : Type 1} → statement M
 is-end-spec =

@@ -1,6 +1,10 @@
 -- `log::scan::begin_turn` meets its contract. Assumes nothing.
 use Prim.Native.Nat.{_+_, _<_}
 use native.Mathlib.Omega.{arith}
+use mathlib.Core.Path.{_≡_}
+use Rattle.log.specs.Record.{lengthOf}
+use Rattle.log.proofs.Begun.{one-most}
+use Rattle.log.proofs.Signs.{begin-room-fixed}
 use Rattle.log.proofs.Ways.{lost-pick, on-pick, begin-room, begin-last}
 use borrow.Author.Needs.{needs}
 use Rattle.log.proofs.scan.begin_turn.Statement.{statement}
@@ -27,16 +31,22 @@ lost-requires-2 c κs = search needs
 returns-2 : tie.Need-returns-2
 returns-2 c = lost-pick _ _ _ _ (c .lost2 .ensures) (c .before .before .is-begin .ensures) (c .before .if2 .taken)
 
-begun-requires : tie.Need-begun-requires
-begun-requires c κs =
+carried-requires : tie.Need-carried-requires
+carried-requires c κs =
     let a = c .before .before .before .before .before .before .before in
     let r = begin-room _ (a .args .m .now) _ (c .if2 .left) _ (c .before .is-begin .ensures) in
-    let u : a .args .w .unit .0 < 4294967295 = omega (arith, c .before .before .before .before .if1 .left) in
-    let k : a .args .w .at + 44 < 18446744073709551616 = omega (arith, r) in
-    (a .pre .0, u, k)
+    begin-room-fixed _ _ r
+
+begun-requires : tie.Need-begun-requires
+begun-requires c κs =
+    let k = c .before in
+    let a = k .before .before .before .before .before .before .before in
+    let r = begin-room _ (a .args .m .now) _ (k .if2 .left) _ (k .before .is-begin .ensures) in
+    let u : a .args .w .unit .0 < 4294967295 = omega (arith, k .before .before .before .before .if1 .left) in
+    (one-most _ _ (c .carried .ensures), a .pre .0, u, rw (c .carried .ensures) (omega (arith, r)))
 
 returns-3 : tie.Need-returns-3
-returns-3 c = on-pick _ _ _ _ (c .begun .ensures) (c .before .before .is-begin .ensures) (c .before .if2 .left)
+returns-3 c = rw (← c .before .carried .ensures) (on-pick _ _ _ _ (c .begun .ensures) (c .before .before .before .is-begin .ensures) (c .before .before .if2 .left))
 
 pub begin-turn-spec : {M : Type 1} → statement M
 begin-turn-spec =
@@ -49,5 +59,6 @@ begin-turn-spec =
     is-begin-requires
     lost-requires-2
     returns-2
+    carried-requires
     begun-requires
     returns-3)

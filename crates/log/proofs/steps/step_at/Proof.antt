@@ -18,7 +18,7 @@ returns c = search step-compact!
 other-step-requires : tie.Need-other-step-requires
 other-step-requires c κs =
     let a = c .before .before .before in
-    (a .pre .0, a .pre .1, ne-eqb _ 1 (λ q. c .if1 .left (c .before .byte-at .ensures .0 ∙ q)))
+    (a .pre .0, a .pre .1, a .pre .2, ne-eqb _ 1 (λ q. c .if1 .left (c .before .byte-at .ensures .0 ∙ q)))
 
 returns-2 : tie.Need-returns-2
 returns-2 c = search needs

@@ -39,7 +39,7 @@ sub-result : tie.Need-sub-result
 sub-result c =
     let k = c .before .before .before .before in
     let a = k .before .before .before .before in
-    omega (arith, count-room (a .args .m .now) (a .args .unit .0) (a .pre .1) _ (k .before .before .byte-at .ensures .0) (k .before .if1 .left) (k .if2 .left))
+    omega (arith, count-room (a .args .m .now) (a .args .unit .0) (a .pre .1) (a .pre .2) _ (k .before .before .byte-at .ensures .0) (k .before .if1 .left) (k .if2 .left))
 
 returns-3 : tie.Need-returns-3
 returns-3 c = search count-compact!

@@ -23,7 +23,7 @@ same-length c = search needs
 returns : tie.Need-returns
 returns c =
     let a = c .before .before .before .before .before .before .before .before .before .before in
-    cc (unit-puts (a .args .s .now) (a .args .at) (kindAt (a .args .k)) (a .args .n .0) (a .args .prior .0) (a .args .unit .0) (a .pre .1))
+    cc (unit-puts (a .args .s .now) (a .args .at) (kindAt (a .args .k)) (a .args .rows) (a .args .n .0) (a .args .prior .0) (a .args .unit .0) (a .pre .2))
 
 pub put-unit-spec : {M : Type 1} → statement M
 put-unit-spec =

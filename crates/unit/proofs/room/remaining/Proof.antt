@@ -35,7 +35,7 @@ loop-holds : tie.Need-loop-holds Inv-loop μ-loop
 loop-holds c = (omega arith, c .before .before .pre .3, omega arith, omega arith)
 
 step-at-requires : tie.Need-step-at-requires Inv-loop μ-loop
-step-at-requires c κs = (c .before .before .before .pre .1, c .before .before .before .pre .2)
+step-at-requires c κs = let a = c .before .before .before in (a .pre .1, a .pre .2, a .pre .4)
 
 step-size-requires : tie.Need-step-size-requires Inv-loop μ-loop
 step-size-requires c κs = (c .before .before .before .before .pre .0, search step-inside)

@@ -2,10 +2,15 @@
 //! compares programs must tell each of them from the second program.
 //!
 //! The first four are those of document 01's "Easy to get wrong". Each fault
-//! lends the right call something wrong, or changes what it leaves.
+//! lends the right call something wrong, or changes what it leaves. Those of
+//! puts and deletes are in `saves`.
+
+mod saves;
+
+pub use saves::SAVE_FAULTS;
 
 use crate::bytes::{get32, page_of, page_of_mut, put32, Numbers, PAGES_BYTES, PAGE_COUNT};
-use crate::log::{Log, Open, Record, Step, BEGIN_BYTES, CHECK_BYTES};
+use crate::log::{Log, Record, Step, BEGIN_BYTES, CHECK_BYTES};
 use crate::page::{read_page, read_pages, Body, ROW_BYTES};
 use crate::runs::Program;
 use crate::state::{Answer, Call, State, Values};
@@ -17,6 +22,7 @@ pub struct Fault {
     pub program: &'static Program<'static>,
 }
 
+/// Faults of document 01's calls.
 pub const FAULTS: [Fault; 24] = [
     named("in-repeated", &in_repeated),
     named("swap-by-pointer", &swap_by_pointer),
@@ -48,9 +54,14 @@ const fn named(name: &'static str, program: &'static Program<'static>) -> Fault 
     Fault { name, program }
 }
 
+/// All faults.
+pub fn all() -> impl Iterator<Item = &'static Fault> {
+    FAULTS.iter().chain(&SAVE_FAULTS)
+}
+
 /// The program with this fault.
 pub fn fault(name: &str) -> Option<&'static Program<'static>> {
-    let fault = FAULTS.iter().find(|fault| fault.name == name);
+    let fault = all().find(|fault| fault.name == name);
     fault.map(|fault| fault.program)
 }
 
@@ -105,8 +116,7 @@ fn swap_by_pointer(call: &Call, state: &mut State) -> Answer {
 }
 
 fn by_pointer(log: &Log, work: &[u8]) -> Option<Record> {
-    let Open { steps, done, .. } = log.open.as_ref()?;
-    let (base, old, new) = match steps[*done] {
+    let (base, old, new) = match *log.open.as_ref()?.remaining().first()? {
         Step::Point {
             base,
             old,
@@ -132,22 +142,26 @@ fn by_pointer(log: &Log, work: &[u8]) -> Option<Record> {
 fn room_for_next(call: &Call, state: &mut State) -> Answer {
     let answer = call.on(state);
     let begin = matches!(call, Call::BeginCompact { .. } | Call::BeginOrder);
-    let used = state.numbers.used as usize;
-    let room = state.log.len().saturating_sub(used) >= BEGIN_BYTES;
-    if !(begin && answer.reply == reply::ROOM && room) {
-        return answer;
+    match begin && answer.reply == reply::ROOM {
+        true => begun_in_room(call, state).unwrap_or(answer),
+        false => answer,
     }
-    // The same begin after a log of one check record.
+}
+
+/// Begins as after a log of one check record, where the begin record fits.
+fn begun_in_room(call: &Call, state: &mut State) -> Option<Answer> {
     let log = state.read_log();
     let mut short = state.clone();
     short.set_check(log.last(), log.unit, log.lk);
     let answer = call.on(&mut short);
-    if answer.reply == reply::DONE {
-        let begin = &short.log[CHECK_BYTES..CHECK_BYTES + BEGIN_BYTES];
-        state.log[used..used + BEGIN_BYTES].copy_from_slice(begin);
-        state.numbers.used += BEGIN_BYTES as u32;
+    let begin = &short.log[CHECK_BYTES..short.numbers.used as usize];
+    let room = log.end()..log.end() + begin.len();
+    if answer.reply == reply::DONE && room.end <= state.log.len() {
+        state.log[room.clone()].copy_from_slice(begin);
+        state.numbers.used = room.end as u32;
+        return Some(answer);
     }
-    answer
+    None
 }
 
 /// Recovery finds a begin record alone and chooses the unit afresh, with the

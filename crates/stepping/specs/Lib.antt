@@ -1,0 +1,2 @@
+-- Test 3 of a step.
+pub mod Formed

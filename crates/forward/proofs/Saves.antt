@@ -69,7 +69,7 @@ unfolding logging
 logging-some u [] js = omega arith
 logging-some u (k ∷ ks) js = omega arith
 
-length-logging : (u : ℕ) (js ks : List Image) → length (logging ks ++ (LE u js ∷ [])) ≡ length ks + 1
+pub length-logging : (u : ℕ) (js ks : List Image) → length (logging ks ++ (LE u js ∷ [])) ≡ length ks + 1
 unfolding logging
 length-logging u js [] = refl
 length-logging u js (k ∷ ks) = omega (arith, length-logging u js ks)

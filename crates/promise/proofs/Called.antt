@@ -1,5 +1,5 @@
 -- Every call on a live state leaves a live state, whether it is accepted or refused. Assumes nothing but the unit laws, which are handed in.
-use Prim.Native.Nat.{ℕ, suc, _+_, _-_, _≤_}
+use Prim.Native.Nat.{ℕ, zero, suc, _+_, _-_, _≤_}
 use native.Mathlib.Omega.{arith}
 use mathlib.Core.Path.{_≡_, refl, sym, ap, _∙_, subst, subst₂}
 use mathlib.Core.Logic.{inl, inr}
@@ -9,37 +9,44 @@ use mathlib.Core.Option.{Option, some, none}
 use lib.ListN.{length, take}
 use lib.Seq.{take-length}
 use lib.Dec.{eqb, leb}
-use borrow.Author.Tests.{leb-true, ltb-true}
+use borrow.Author.Tests.{eqb-true, leb-true, ltb-true}
 use Rattle.field.specs.Test.{pick, need, given, there}
 use Rattle.field.specs.Bytes.{put, most4}
-use Rattle.field.proofs.Test.{both-1, both-2, need-true, given-some, given-none}
+use Rattle.field.proofs.Test.{both-1, both-2, pick-either, need-true, given-some}
 use Rattle.field.proofs.Same.{same-eq}
 use Rattle.page.specs.Page.{number}
 use Rattle.page.specs.Pages.{page, pages}
-use Rattle.log.specs.Record.{Check, Begin, Rec, LB, encode, sizes}
+use Rattle.log.specs.Record.{Check, Begin, saves, Rec, LB, encode, sizes}
+use Rattle.log.specs.Write.{saveOf}
 use Rattle.log.specs.Plan.{Step}
-use Rattle.log.specs.Log.{Open, State, after, lastForced}
+use Rattle.log.specs.Log.{Open, State, after, readLog, lastForced}
 use Rattle.log.proofs.State.{at-atEnd, number-atEnd}
-use Rattle.log.proofs.Plan.{Ending}
 use Rattle.log.specs.Valid.{Good}
-use Rattle.log.proofs.Sound.{Waits, Awaits, waits-open, sound-atEnd}
+use Rattle.log.proofs.Sound.{Waits, sound-atEnd}
+use Rattle.tree.specs.Tree.{allRecords}
 use Rattle.tree.specs.Answer.{Found, missing, found}
 use Rattle.unit.specs.Choice.{orderUnit}
 use Rattle.unit.specs.Next.{targets, apply, targetOf}
 use Rattle.unit.proofs.Pagewise.{apply-stays}
 use Rattle.unit.proofs.Places.{Keeping, one-more, StepKeeps, OpenKeeps, end-keeps}
-use Rattle.store.specs.Calls.{Lent, lent, Left, left, refused, logLength, Went, stopped, formedAt, stepWith, stepped, append, todoOf, begun, beginWith, checkpointed, answered}
+use Rattle.saving.specs.Rest.{Rest, refuses, lacks, restOf}
+use Rattle.store.specs.Calls.{Lent, lent, Left, left, refused, logLength, stopped, formedAt, stepped, begunWith, begun, beginWith, deleting, savingAll, beginSave, checkpointed, answered}
 use Rattle.store.specs.Calls as Calls
+use Rattle.forward.specs.Appends.{appendOpen}
+use Rattle.stepping.specs.Formed.{firstFormed, openFormed}
+use Rattle.stepping.proofs.Steps.{step-shut, step-goes-on, with-open}
 use Rattle.replay.specs.Store.{Formed, Settled, Uncut, Reached}
 use Rattle.replay.specs.Laws.{UnitLaws}
 use Rattle.replay.proofs.Theorem.{ran-shape, ran-settled, ran-step}
-use Rattle.promise.specs.Parts.{logOf, stateOf, store, asked, Chooses, Begins, Checks}
+use Rattle.promise.specs.Promise.{savedBy}
+use Rattle.promise.specs.Parts.{logOf, stateOf, leftOf, nextIn, store, asked, Chooses, Carries, to-put, to-delete, Wants, tidying, saving, Begins, Checks}
 use Rattle.promise.proofs.OnPages.{page-laws}
-use Rattle.promise.proofs.Image.{image, put-image, at-grown, forced-image}
-use Rattle.promise.proofs.Forward.{Next, next-facts, next-at, apply-at, append-is}
+use Rattle.promise.proofs.Image.{image, put-image, at-grown, forced-image, read-image}
+use Rattle.promise.proofs.Forward.{left-none, left-open, some-open, open-is, apply-at}
 use Rattle.promise.proofs.Standing.{last-fits}
 use Rattle.promise.proofs.Refused.{refused-now}
-use Rattle.promise.proofs.Live.{Live, live-room, image-bare, Ran, stored-of, ran-of, stored, work-pages, two-sized, known-ran, live-grown}
+use Rattle.promise.proofs.Written.{bytes-written}
+use Rattle.promise.proofs.Live.{Live, live-bytes, image-bare, Ran, stored-of, ran-of, stored, work-pages, two-sized, known-ran, live-grown}
 
 module _ {rs : List (List ℕ)} {origin : List ℕ} {d : Lent} where
   -- a state that a call leaves is the one that it was lent
@@ -64,26 +71,6 @@ unfolding there
 not-there none e = refl
 not-there (some a) e = absurd (false≢true e)
 
--- a state's open unit and what is left of it
-none-left : (o : Option Open) → o ≡ none → length (todoOf o) ≡ 0
-unfolding todoOf
-none-left o e = rw e
-
--- an open unit has a step to come
-pub record Some (ts : List Step) : Type 0 where
-  pub head : Step
-  pub tail : List Step
-  pub is : ts ≡ head ∷ tail
-
-pub ending-some : {u : ℕ} {ts : List Step} → Ending u ts → Some ts
-ending-some {u} Ending.last = record { head = Rattle.log.specs.Plan.close u; tail = []; is = refl }
-ending-some (Ending.more {x = x} {xs = xs} w h) = record { head = x; tail = xs; is = refl }
-
-some-open : (o : Option Open) (k : ℕ) → length (todoOf o) ≡ suc k → (u : Open) × (o ≡ some u)
-unfolding todoOf
-some-open none k e = absurd (omega arith)
-some-open (some o) k e = (o, refl)
-
 -- the page that a step changes is one of the 64, and in form
 formed-target : (x : Step) (w : List ℕ) → StepKeeps x → Formed store asked w → formedAt (targetOf x) w ≡ true
 unfolding formedAt targetOf
@@ -92,21 +79,18 @@ formed-target (Rattle.log.specs.Plan.bringIn org dest back) w k f = f .form des
 formed-target (Rattle.log.specs.Plan.point base old new other) w k f = f .form base (omega (arith, k .0 .1))
 formed-target (Rattle.log.specs.Plan.close unit) w k f = refl
 
-keeps-head : (x : Step) (xs ts : List Step) → ts ≡ x ∷ xs → Keeping ts → StepKeeps x
-keeps-head x xs ts e k = head (subst Keeping e k)
-  where
-    head : Keeping (x ∷ xs) → StepKeeps x
-    head (one-more h r) = h
+keeps-head : (x : Step) (xs : List Step) → Keeping (x ∷ xs) → StepKeeps x
+keeps-head x xs (one-more h r) = h
 
-todo-of : (o : Option Open) (u : Open) (ts : List Step) → o ≡ some u → u .todo ≡ ts → todoOf o ≡ ts
-unfolding todoOf
-todo-of o u ts e t = rw e t
+-- test 3 of a step passes
+first-formed : (todo : List Step) (w : List ℕ) → Keeping todo → Formed store asked w → firstFormed todo w ≡ true
+unfolding firstFormed
+first-formed [] w k f = refl
+first-formed (x ∷ xs) w k f = formed-target x w (keeps-head x xs k) f
 
--- a step past test 3
-step-with : (ts : List Step) (x : Step) (xs : List Step) (s : State) (w b : List ℕ) (y : Went) → ts ≡ x ∷ xs → formedAt (targetOf x) w ≡ true
-    → append x xs s w b ≡ y → stepWith ts s w b ≡ y
-unfolding stepWith
-step-with ts x xs s w b y t f e = rw t (need-true (formedAt (targetOf x) w) (stopped 3) (append x xs s w b) f ∙ e)
+open-formed : (o : Open) (w : List ℕ) → Keeping (o .todo) → Formed store asked w → openFormed o w ≡ true
+unfolding openFormed
+open-formed o w k f = pick-either (λ (t : Bool). t ≡ true) (saves (o .start)) true (firstFormed (o .todo) w) refl (first-formed (o .todo) w k f)
 
 -- the end of a check record alone
 pub bare-at : (k : Check) → stateOf k [] .at ≡ 24
@@ -122,56 +106,51 @@ pub apply-begin : (n : ℕ) (g : Begin) (w : List ℕ) → apply n (LB g) w ≡ 
 apply-begin n g w = apply-stays n (LB g) w (unfold targets in refl)
 
 module _ (U : UnitLaws store asked) {origin : List ℕ} (d : Lent) (v : Ran origin d) where
+  -- what is known at its log's end
+  abbrev end : State
+  end = stateOf (v .top) (v .recs)
+
   -- between two units the work pages are a well-formed tree in form
-  pub settled : stateOf (v .top) (v .recs) .opened ≡ none → Settled store asked origin (d .work) (v .top) (v .recs)
-  settled e = ran-settled store asked page-laws U (v .settled) (v .uncut) (none-left (stateOf (v .top) (v .recs) .opened) e)
+  pub settled : end .opened ≡ none → Settled store asked origin (d .work) (v .top) (v .recs)
+  settled e = ran-settled store asked page-laws U (v .settled) (v .uncut) (left-none (end .opened) end (d .work) e)
 
   -- the step that the generic half gives is accepted, and is what the call does
-  pub step-is : (k : ℕ) (r : Rec) (w′ : List ℕ) → length (todoOf (stateOf (v .top) (v .recs) .opened)) ≡ suc k
+  pub step-is : (k : ℕ) (r : Rec) (w′ : List ℕ) → store .left (v .top) (d .work) (v .recs) ≡ suc k
       → store .next (v .top) (d .work) (v .recs) ≡ some r → apply (v .top .number + length (v .recs) + 1) r (d .work) ≡ some w′
       → Calls.step d
       ≡ left 0 [] (lent (stateOf (v .top) (v .recs ++ (r ∷ [])) .at) (d .forced) w′ (d .store) (image (v .top) (v .recs ++ (r ∷ []))) (d .bytes))
-  unfolding Calls.step stepped
+  unfolding stepped
   step-is k r w′ z next applies =
       let g : Good (logOf (v .top) (v .recs)) = stored U d v .good in
-      let (o, e) = some-open (stateOf (v .top) (v .recs) .opened) k z in
-      let a : Awaits (stateOf (v .top) (v .recs) .unit) o =
-      waits-open (subst (Waits (stateOf (v .top) (v .recs) .unit)) e (sound-atEnd (logOf (v .top) (v .recs)) g .waits)) in
-      let t : Some (o .todo) = ending-some (a .todo) in
-      let x : Step = t .head in
-      let xs : List Step = t .tail in
-      let todo : todoOf (stateOf (v .top) (v .recs) .opened) ≡ x ∷ xs = todo-of (stateOf (v .top) (v .recs) .opened) o (x ∷ xs) e (t .is) in
-      let n : Next x xs (stateOf (v .top) (v .recs)) (d .work) r =
-      next-facts x xs (stateOf (v .top) (v .recs)) (d .work) r
-      (next-at (stateOf (v .top) (v .recs)) (d .work) (todoOf (stateOf (v .top) (v .recs) .opened)) (x ∷ xs) r todo next) in
+      let (o, e) = some-open (end .opened) end (d .work) k z in
       let h : Good (logOf (v .top) (v .recs ++ (r ∷ []))) =
       ran-shape store asked page-laws U (v .settled) (Uncut.step (v .uncut) z next applies) .0 in
-      let k′ : StepKeeps x = keeps-head x xs (o .todo) (t .is) (subst OpenKeeps e (end-keeps (logOf (v .top) (v .recs)) g)) in
-      let f : formedAt (targetOf x) (d .work) ≡ true = formed-target x (d .work) k′ (work-pages U d v) in
-      need-true _ (refused 0 1 d) _ (two-sized U d v)
-      ∙ given-some _ (logOf (v .top) (v .recs)) (refused 0 2 d) _ (known-ran U d v)
-      ∙ given-some _ o (refused 0 10 d) _ e
+      let keeps : Keeping (o .todo) = subst OpenKeeps e (end-keeps (logOf (v .top) (v .recs)) g) .0 in
+      let here : apply (end .number + 1) r (d .work) ≡ some w′ =
+      apply-at (v .top .number + length (v .recs)) (end .number) r (d .work) w′ (sym (number-atEnd (logOf (v .top) (v .recs)))) applies in
+      step-goes-on d (two-sized U d v) (logOf (v .top) (v .recs)) (known-ran U d v) o e
       ∙ ap (stepped d)
-      (step-with (o .todo) x xs (stateOf (v .top) (v .recs)) (d .work) (d .log) _ (t .is) f
-      (ap (append x xs (stateOf (v .top) (v .recs)) (d .work)) (v .log)
-      ∙ append-is (v .top) (v .recs) x xs (d .work) w′ r g (last-fits (v .top) (v .recs) r h) n
-      (apply-at (v .top .number + length (v .recs)) (stateOf (v .top) (v .recs) .number) r (d .work) w′ (sym (number-atEnd (logOf (v .top) (v .recs)))) applies)))
+      (with-open o end (d .work) (d .log)
+      ∙ need-true (openFormed o (d .work)) (stopped 3) _ (open-formed o (d .work) keeps (work-pages U d v))
+      ∙ ap (appendOpen o end (d .work)) (v .log)
+      ∙ open-is (v .top) (v .recs) (d .work) w′ r g (last-fits (v .top) (v .recs) r h) here o
+      (subst (λ (y : Option Open). nextIn y end (d .work) ≡ some r) e next))
 
   -- no unit is open
-  pub step-none : stateOf (v .top) (v .recs) .opened ≡ none → Calls.step d ≡ refused 0 10 d
-  unfolding Calls.step
-  step-none e =
-      need-true _ (refused 0 1 d) _ (two-sized U d v)
-      ∙ given-some _ (logOf (v .top) (v .recs)) (refused 0 2 d) _ (known-ran U d v)
-      ∙ given-none _ (refused 0 10 d) _ e
+  pub step-none : end .opened ≡ none → Calls.step d ≡ refused 0 10 d
+  step-none e = step-shut d (two-sized U d v) (logOf (v .top) (v .recs)) (known-ran U d v) e
 
   -- an open unit still lacks records
-  pub open-left : (o : Open) → stateOf (v .top) (v .recs) .opened ≡ some o → (k : ℕ) × (length (todoOf (stateOf (v .top) (v .recs) .opened)) ≡ suc k)
+  pub open-left : (o : Open) → end .opened ≡ some o → (k : ℕ) × (store .left (v .top) (d .work) (v .recs) ≡ suc k)
   open-left o e =
-      let a : Awaits (stateOf (v .top) (v .recs) .unit) o =
-      waits-open (subst (Waits (stateOf (v .top) (v .recs) .unit)) e (sound-atEnd (logOf (v .top) (v .recs)) (stored U d v .good) .waits)) in
-      let t : Some (o .todo) = ending-some (a .todo) in
-      (length (t .tail), ap length (todo-of (stateOf (v .top) (v .recs) .opened) o (t .head ∷ t .tail) e (t .is)))
+      let f : Formed store asked (d .work) = work-pages U d v in
+      let h : Waits (end .unit) (some o) = subst (Waits (end .unit)) e (sound-atEnd (logOf (v .top) (v .recs)) (stored U d v .good) .waits) in
+      let n : 1 ≤ leftOf (some o) end (d .work) = left-open o end (d .work) h (f .sized .0) (f .sized .1) in
+      one-less (leftOf (end .opened) end (d .work)) (subst (λ (y : Option Open). 1 ≤ leftOf y end (d .work)) (sym e) n)
+    where
+      one-less : (n : ℕ) → 1 ≤ n → (k : ℕ) × (n ≡ suc k)
+      one-less zero h = absurd (omega arith)
+      one-less (suc k) h = (k, refl)
 
 module _ (U : UnitLaws store asked) {rs : List (List ℕ)} {origin : List ℕ} (d : Lent) (v : Live rs origin d) where
   -- its work pages and log, as those of an uncut run
@@ -180,30 +159,33 @@ module _ (U : UnitLaws store asked) {rs : List (List ℕ)} {origin : List ℕ} (
 
   -- ---- begin
 
-  begun-live : (g : Begin) → stateOf (v .top) (v .recs) .opened ≡ none → Chooses (stateOf (v .top) (v .recs)) (d .work) g
-      → Live rs origin (begun d (stateOf (v .top) (v .recs)) g .now)
-  unfolding begun stepped after
-  begun-live g e ch =
+  -- tests 6 and 7, and the begin record of a unit that is wanted
+  begun-live : (g : Begin) (long many : ℕ) → stateOf (v .top) (v .recs) .opened ≡ none → Wants (stateOf (v .top) (v .recs)) (d .work) g long many
+      → Live rs origin (begunWith d (stateOf (v .top) (v .recs)) g long many .now)
+  unfolding begunWith stepped after
+  begun-live g long many e h =
       by-test _ 0 6 _ v (λ fits. by-test _ 0 7 _ v (λ nums.
       let b : Begins (v .top) (d .work) (v .recs) (LB g) =
       record {
         begun = g;
+        long = long;
+        many = many;
         is = refl;
-        chosen = ch;
+        wants = h;
         fits = leb-true _ logLength fits;
         numbered = leb-true _ most4 (both-1 _ _ nums);
         unit = leb-true (g .unit) most4 (both-2 _ _ nums);
       } in
       live-grown U d v (LB g) (d .work)
-      (Reached.begin (v .reached) (none-left (stateOf (v .top) (v .recs) .opened) e) b (apply-begin _ g (d .work)))))
+      (Reached.begin (v .reached) (left-none (stateOf (v .top) (v .recs) .opened) (stateOf (v .top) (v .recs)) (d .work) e) b (apply-begin _ g (d .work)))))
 
   begin-live : (choose : ℕ → List (List ℕ) → Option Begin)
       → ((g : Begin) → choose (stateOf (v .top) (v .recs) .unit + 1) (pages (d .work)) ≡ some g → Chooses (stateOf (v .top) (v .recs)) (d .work) g)
       → Live rs origin (beginWith d (stateOf (v .top) (v .recs)) choose .now)
-  unfolding beginWith
+  unfolding beginWith begun
   begin-live choose ch =
       by-test _ 0 9 _ v (λ shut. by-test _ 0 3 _ v (λ form. by-test _ 0 8 _ v (λ well.
-      by-value _ 0 11 _ v (λ g e. begun-live g (not-there (stateOf (v .top) (v .recs) .opened) shut) (ch g e)))))
+      by-value _ 0 11 _ v (λ g e. begun-live g _ _ (not-there (stateOf (v .top) (v .recs) .opened) shut) (tidying (ch g e))))))
 
   pub begin-compact-live : (fill : ℕ) → Live rs origin (Calls.beginCompact fill d .now)
   unfolding Calls.beginCompact
@@ -217,6 +199,31 @@ module _ (U : UnitLaws store asked) {rs : List (List ℕ)} {origin : List ℕ} (
       by-test _ 0 1 _ v (λ sized. rw (given-some _ (logOf (v .top) (v .recs)) (refused 0 2 d) _ (known-ran U d here))
       (begin-live orderUnit (λ g e. inr e)))
 
+  -- what a put or delete lacks is worked out
+  rest-live : (g : Begin) → stateOf (v .top) (v .recs) .opened ≡ none → (x : Rest)
+      → ((ls : List Rec) → x ≡ lacks ls → Wants (stateOf (v .top) (v .recs)) (d .work) g (sizes ls) (length ls))
+      → Live rs origin (savingAll d (stateOf (v .top) (v .recs)) g x .now)
+  unfolding savingAll
+  rest-live g shut (refuses q) h = live-same (refused 0 q d) (refused-now 0 q d) v
+  rest-live g shut (lacks ls) h = begun-live g (sizes ls) (length ls) shut (h ls refl)
+
+  save-live : (type : ℕ) (r : List ℕ) → Carries type r
+      → Live rs origin (beginSave d (stateOf (v .top) (v .recs)) (saveOf (stateOf (v .top) (v .recs) .unit + 1) type r) .now)
+  unfolding beginSave
+  save-live type r h = by-test _ 0 9 _ v (λ shut. rest-live _ (not-there (stateOf (v .top) (v .recs) .opened) shut) _ (λ ls e. saving h e))
+
+  pub begin-put-live : Live rs origin (Calls.beginPut d .now)
+  unfolding Calls.beginPut
+  begin-put-live =
+      by-test _ 0 1 _ v (λ sized. rw (given-some _ (logOf (v .top) (v .recs)) (refused 0 2 d) _ (known-ran U d here))
+      (by-test _ 0 12 _ v (λ whole. by-test _ 0 16 _ v (λ mark. save-live 4 (d .bytes) (to-put (eqb-true (length (d .bytes)) 16 whole) mark (v .bytes))))))
+
+  pub begin-delete-live : (key : ℕ) → Live rs origin (Calls.beginDelete key d .now)
+  unfolding Calls.beginDelete
+  begin-delete-live key =
+      by-test _ 0 1 _ v (λ sized. rw (given-some _ (logOf (v .top) (v .recs)) (refused 0 2 d) _ (known-ran U d here))
+      (save-live 5 (deleting key) (to-delete key)))
+
   -- ---- step
 
   -- the log after the record r, as bytes
@@ -226,7 +233,7 @@ module _ (U : UnitLaws store asked) {rs : List (List ℕ)} {origin : List ℕ} (
       ap (put (stateOf (v .top) (v .recs) .at) (encode (stateOf (v .top) (v .recs) .number + 1) r)) (v .log)
       ∙ put-image (v .top) (v .recs) r (stored-of U (v .reached) .good) (last-fits (v .top) (v .recs) r g)
 
-  step-open : (k : ℕ) → length (todoOf (stateOf (v .top) (v .recs) .opened)) ≡ suc k → Live rs origin (Calls.step d .now)
+  step-open : (k : ℕ) → store .left (v .top) (d .work) (v .recs) ≡ suc k → Live rs origin (Calls.step d .now)
   step-open k z =
       let (r, w′, next, applies, fewer) = ran-step store asked page-laws U (here .settled) (here .uncut) z in
       let h : Reached store asked origin (some w′) (d .store) (v .top) (v .recs ++ (r ∷ [])) (v .many) =
@@ -264,6 +271,7 @@ module _ (U : UnitLaws store asked) {rs : List (List ℕ)} {origin : List ℕ} (
         reached = Reached.flush p (v .reached) (ltb-true p 64 small) (flush-test p e);
         log = v .log;
         numbered = record { used = v .numbered .used; forced = v .numbered .forced; among = v .numbered .among };
+        bytes = v .bytes;
       }))))
 
   pub force-live : Live rs origin (Calls.force d .now)
@@ -282,11 +290,22 @@ module _ (U : UnitLaws store asked) {rs : List (List ℕ)} {origin : List ℕ} (
           forced = v .numbered .used ∙ at-atEnd (logOf (v .top) (v .recs)) ∙ ap (λ (a : List Rec). 24 + sizes a) (sym (take-length (v .recs)));
           among = omega arith;
         };
+        bytes = v .bytes;
       }))
 
-  -- an accepted checkpoint writes a check record: the pages at that record are then the work pages
+  -- an accepted checkpoint writes a check record: the pages at that record are then the work pages, the records those that the log has made
   abbrev Anew : Left → Type 0
-  Anew x = Live rs (pick (eqb (x .reply) 0) (d .work) origin) (x .now)
+  Anew x =
+      Live (pick (eqb (x .reply) 0) (given (readLog (d .log)) rs (λ g. savedBy (g .recs) rs)) rs) (pick (eqb (x .reply) 0) (d .work) origin) (x .now)
+
+  read-here : readLog (d .log) ≡ some (logOf (v .top) (v .recs))
+  read-here = ap readLog (v .log) ∙ read-image (v .top) (v .recs) (stored U d here .good)
+
+  records-here : Settled store asked origin (d .work) (v .top) (v .recs)
+      → allRecords (pages (d .work)) ≡ given (readLog (d .log)) rs (λ g. savedBy (g .recs) rs)
+  records-here s =
+      s .fine .1 ∙ ap (savedBy (v .recs)) (v .records)
+      ∙ sym (given-some (readLog (d .log)) (logOf (v .top) (v .recs)) rs (λ g. savedBy (g .recs) rs) read-here)
 
   anew-test : (b : Bool) (r : ℕ) (y : Left) → eqb r 0 ≡ false → (b ≡ true → Anew y) → Anew (need b (refused 0 r d) y)
   unfolding need refused pick
@@ -301,14 +320,16 @@ module _ (U : UnitLaws store asked) {rs : List (List ℕ)} {origin : List ℕ} (
       let n : Checks (v .top) (v .recs) (checkpointed clear (stateOf (v .top) (v .recs))) =
       record { clear = clear; is = refl; numbered = leb-true _ most4 nums } in
       record {
-        records = settled U d here (not-there (stateOf (v .top) (v .recs) .opened) shut) .fine .1 ∙ v .records;
+        records = records-here (settled U d here (not-there (stateOf (v .top) (v .recs) .opened) shut));
         top = checkpointed clear (stateOf (v .top) (v .recs));
         recs = [];
         many = 0;
-        reached = Reached.checkpoint (v .reached) (none-left _ (not-there (stateOf (v .top) (v .recs) .opened) shut))
+        reached = Reached.checkpoint (v .reached)
+            (left-none (stateOf (v .top) (v .recs) .opened) (stateOf (v .top) (v .recs)) (d .work) (not-there (stateOf (v .top) (v .recs) .opened) shut))
             (same-eq (d .work) (d .store) equal) (n, refl, refl);
         log = sym (image-bare (checkpointed clear (stateOf (v .top) (v .recs))));
         numbered = record { used = sym (bare-at (checkpointed clear (stateOf (v .top) (v .recs)))); forced = nothing-forced; among = omega arith };
+        bytes = v .bytes;
       })))))
 
   -- ---- find, list
@@ -326,4 +347,5 @@ module _ (U : UnitLaws store asked) {rs : List (List ℕ)} {origin : List ℕ} (
   pub list-live : (low high : ℕ) → Live rs origin (Calls.list low high d .now)
   unfolding Calls.list
   list-live low high =
-      by-test _ 2 1 _ v (λ sized. by-value _ 2 2 _ v (λ g e. by-test _ 2 9 _ v (λ shut. by-test _ 2 3 _ v (λ form. by-test _ 2 8 _ v (λ well. live-room _ v)))))
+      by-test _ 2 1 _ v (λ sized. by-value _ 2 2 _ v (λ g e. by-test _ 2 9 _ v (λ shut. by-test _ 2 3 _ v (λ form. by-test _ 2 8 _ v (λ well.
+      live-bytes _ (bytes-written low high (d .work) (d .bytes) (work-pages U d here .sized .1) (v .bytes)) v)))))

@@ -1,4 +1,4 @@
--- The contract of each of the ten calls, as it stands beside the code, is the equation that `Fixed` speaks of: a are the arguments in the order in
+-- The contract of each of the twelve calls, as it stands beside the code, is the equation that `Fixed` speaks of: a are the arguments in the order in
 -- which the call has them, the first being the numbers, r is what it returns and e its parameters at exit. Assumes nothing.
 use Prim.Native.Nat.{ℕ}
 use mathlib.Core.Path.{_≡_, refl}
@@ -21,6 +21,8 @@ use Rattle.building.proofs.build as build
 use Rattle.recovering.proofs.recover as recover
 use Rattle.beginning.proofs.begin_compact as begin-compact
 use Rattle.beginning.proofs.begin_order as begin-order
+use Rattle.putting.proofs.begin_put as begin-put
+use Rattle.putting.proofs.begin_delete as begin-delete
 use Rattle.stepping.proofs.step as step
 use Rattle.flushing.proofs.flush as flush
 use Rattle.forcing.proofs.force as force
@@ -63,6 +65,16 @@ module _ {M : Type 1} (𝓤 : URA M) (H : Heap 𝓤) (A : Atoms 𝓤) (mem : Mem
       (λ κs a r e. replied (result r (now (a .1 .0)) [] (now (e .1 .1 .0)) [])
       ≡ Calls.beginOrder (lentTo (a .0) (now (a .1 .0)) [] (now (a .1 .1 .0)) []))
   begin-order-says κs a g r e = refl
+
+  pub begin-put-says : Says begin-put.ended (begin-put.clauses 𝓤 H A mem run)
+      (λ κs a r e. replied (result r (now (a .1 .0)) [] (now (e .1 .1 .0)) (now (a .1 .1 .1 .0)))
+      ≡ Calls.beginPut (lentTo (a .0) (now (a .1 .0)) [] (now (a .1 .1 .0)) (now (a .1 .1 .1 .0))))
+  begin-put-says κs a g r e = refl
+
+  pub begin-delete-says : Says begin-delete.ended (begin-delete.clauses 𝓤 H A mem run)
+      (λ κs a r e. replied (result r (now (a .1 .0)) [] (now (e .1 .1 .0)) [])
+      ≡ Calls.beginDelete (a .1 .1 .1 .0) (lentTo (a .0) (now (a .1 .0)) [] (now (a .1 .1 .0)) []))
+  begin-delete-says κs a g r e = refl
 
   pub step-says : Says step.ended (step.clauses 𝓤 H A mem run)
       (λ κs a r e. replied (result r (now (e .1 .0)) [] (now (e .1 .1 .0)) [])

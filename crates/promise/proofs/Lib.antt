@@ -6,13 +6,13 @@ pub mod Forward
 pub mod Recovering
 pub mod Live
 pub mod Refused
+pub mod Written
+pub mod Saved
 pub mod Called
 pub mod Accepted
 pub mod Starts
 pub mod Rests
 pub mod Histories
 pub mod Replies
-pub mod OnUnits
-pub mod Demand3
 pub mod Fixed
 pub mod Contracts

@@ -10,7 +10,7 @@ use mathlib.Core.Option.{Option, some}
 use lib.ListN.{length, take, length-append}
 use lib.Seq.{take-append-le}
 use borrow.Author.Tests.{eq-eqb}
-use Rattle.field.specs.Bytes.{put}
+use Rattle.field.specs.Bytes.{Bytes, put}
 use Rattle.field.proofs.Test.{both-intro}
 use Rattle.page.specs.Pages.{pages}
 use Rattle.log.specs.Record.{Check, Rec, size, encode, encodeCheck, encodeAll, sizes}
@@ -30,7 +30,7 @@ use Rattle.promise.proofs.Image.{image, Stored, Numbered, length-image,
 
 -- the work pages may be gone: the store's pages, the log's bytes, and how many of its records are forced
 pub record Lost (rs : List (List ℕ)) (origin : List ℕ) (d : Lent) (forced : ℕ) : Type 0 where
-  pub records : allRecords (pages origin) ≡ rs  -- those of the start
+  pub records : allRecords (pages origin) ≡ rs  -- those at the check record
   pub work : Option (List ℕ)
   pub top : Check
   pub recs : List Rec
@@ -39,6 +39,7 @@ pub record Lost (rs : List (List ℕ)) (origin : List ℕ) (d : Lent) (forced : 
   pub log : d .log ≡ image top recs
   pub held : forced ≡ 24 + sizes (take many recs)
   pub among : many ≤ length recs
+  pub bytes : Bytes (d .bytes)
 
 -- the work pages are there, and the numbers say what is so
 pub record Live (rs : List (List ℕ)) (origin : List ℕ) (d : Lent) : Type 0 where
@@ -49,6 +50,7 @@ pub record Live (rs : List (List ℕ)) (origin : List ℕ) (d : Lent) : Type 0 w
   pub reached : Reached store asked origin (some (d .work)) (d .store) top recs many
   pub log : d .log ≡ image top recs
   pub numbered : Numbered d top recs many
+  pub bytes : Bytes (d .bytes)
 
 pub live-lost : {rs : List (List ℕ)} {origin : List ℕ} {d : Lent} → Live rs origin d → Lost rs origin d (d .forced)
 live-lost {d = d} v =
@@ -62,12 +64,13 @@ live-lost {d = d} v =
       log = v .log;
       held = v .numbered .forced;
       among = v .numbered .among;
+      bytes = v .bytes;
     }
 
--- nothing is said of list's room
-pub live-room : {rs : List (List ℕ)} {origin : List ℕ} {d : Lent} (b : List ℕ) → Live rs origin d
+-- list's room and put's record may be any bytes
+pub live-bytes : {rs : List (List ℕ)} {origin : List ℕ} {d : Lent} (b : List ℕ) → Bytes b → Live rs origin d
     → Live rs origin (lent (d .used) (d .forced) (d .work) (d .store) (d .log) b)
-live-room b v =
+live-bytes b h v =
     record {
       records = v .records;
       top = v .top;
@@ -76,12 +79,13 @@ live-room b v =
       reached = v .reached;
       log = v .log;
       numbered = record { used = v .numbered .used; forced = v .numbered .forced; among = v .numbered .among };
+      bytes = h;
     }
 
--- nor, where the work pages may be gone, of what stands there
-pub lost-room : {rs : List (List ℕ)} {origin : List ℕ} {d : Lent} {forced : ℕ} (w b : List ℕ) → Lost rs origin d forced
+-- and, where the work pages may be gone, whatever stands there
+pub lost-bytes : {rs : List (List ℕ)} {origin : List ℕ} {d : Lent} {forced : ℕ} (w b : List ℕ) → Bytes b → Lost rs origin d forced
     → Lost rs origin (lent (d .used) (d .forced) w (d .store) (d .log) b) forced
-lost-room w b v =
+lost-bytes w b h v =
     record {
       records = v .records;
       work = v .work;
@@ -92,6 +96,7 @@ lost-room w b v =
       log = v .log;
       held = v .held;
       among = v .among;
+      bytes = h;
     }
 
 -- a new log's bytes
@@ -168,4 +173,5 @@ module _ (U : UnitLaws store asked) where
           forced = v .numbered .forced ∙ ap (λ (a : List Rec). 24 + sizes a) (sym (take-append-le (v .many) l (r ∷ []) (v .numbered .among)));
           among = rw (length-append l (r ∷ [])) (omega (arith, v .numbered .among));
         };
+        bytes = v .bytes;
       }

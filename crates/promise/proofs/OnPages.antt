@@ -44,8 +44,8 @@ concerns n r p s = by-list (listed p (targets r)) refl
     by-list : (b : Bool) → listed p (targets r) ≡ b → Touches store asked p n r ⊎ Passes store asked p n r
     by-list true i =
         inl (record {
-          stamped = λ pg pg′ f k e. leaves n r (standing n r s) p pg pg′ i (sym (at-listed (targets r) (change n r) p pg i) ∙ e) .stamp;
-          formed = λ pg pg′ f k e. leaves n r (standing n r s) p pg pg′ i (sym (at-listed (targets r) (change n r) p pg i) ∙ e) .form;
+          stamped = λ pg pg′ f k e. leaves n r (standing n r s) p pg pg′ i k (sym (at-listed (targets r) (change n r) p pg i) ∙ e) .stamp;
+          formed = λ pg pg′ f k e. leaves n r (standing n r s) p pg pg′ i k (sym (at-listed (targets r) (change n r) p pg i) ∙ e) .form;
         })
     by-list false i = inr (λ pg f. at-other (targets r) (change n r) p pg i)
 

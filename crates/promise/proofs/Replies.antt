@@ -3,16 +3,21 @@
 use Prim.Native.Nat.{ℕ}
 use native.Mathlib.Omega.{arith}
 use mathlib.Core.Path.{_≡_, refl, sym, ap, _∙_}
+use mathlib.Core.Logic.{⊎-elim}
 use mathlib.Core.Bool.{Bool, true, false, not}
-use mathlib.Core.List.{List}
+use mathlib.Core.List.{List, []}
 use mathlib.Core.Option.{Option, some, none}
 use Rattle.field.specs.Test.{pick, need, given, there}
 use Rattle.field.proofs.Test.{need-true, need-false, given-some}
+use Rattle.page.specs.Pages.{pages}
 use Rattle.page.proofs.Pages.{formed-pages}
 use Rattle.log.specs.Record.{Begin}
-use Rattle.log.specs.Log.{Open, readLog}
+use Rattle.log.specs.Log.{Open, imagesOf, readLog}
 use Rattle.unit.specs.Choice.{orderUnit}
-use Rattle.store.specs.Calls.{Lent, Left, refused, begun, beginWith, stepped}
+use Rattle.saving.specs.Save.{Changed, cannot, sheets}
+use Rattle.saving.specs.Rest.{refuses, begins, imaging, saving, sheetsOf, resumed}
+use Rattle.saving.proofs.Replies.{Comes, sheets-come}
+use Rattle.store.specs.Calls.{Lent, Left, refused, begunWith, begun, beginWith, savingAll, beginSave, stepped}
 use Rattle.store.specs.Calls as Calls
 use Rattle.store.proofs.Refusals.{reply-refused}
 use Rattle.replay.specs.Store.{Settled}
@@ -59,21 +64,30 @@ module _ (U : UnitLaws store asked) {origin : List ℕ} (d : Lent) (v : Ran orig
   r12 : Spared (refused 0 12 d)
   r12 = other 0 12 d (λ q. omega arith) (λ q. omega arith) (λ q. omega arith) (λ q. omega arith)
 
-  begun-spared : (g : Begin) → Spared (begun d (stateOf (v .top) (v .recs)) g)
-  unfolding begun stepped
-  begun-spared g = spared-test _ _ _ r6 (spared-test _ _ _ r7 (spared-zero _ refl))
+  r15 : Spared (refused 0 15 d)
+  r15 = other 0 15 d (λ q. omega arith) (λ q. omega arith) (λ q. omega arith) (λ q. omega arith)
+
+  r16 : Spared (refused 0 16 d)
+  r16 = other 0 16 d (λ q. omega arith) (λ q. omega arith) (λ q. omega arith) (λ q. omega arith)
+
+  r18 : Spared (refused 0 18 d)
+  r18 = other 0 18 d (λ q. omega arith) (λ q. omega arith) (λ q. omega arith) (λ q. omega arith)
+
+  begun-spared : (g : Begin) (long many : ℕ) → Spared (begunWith d (stateOf (v .top) (v .recs)) g long many)
+  unfolding begunWith stepped
+  begun-spared g long many = spared-test _ _ _ r6 (spared-test _ _ _ r7 (spared-zero _ refl))
 
   -- past test 9 the pages are in form and the tree is well formed
   shut-spared : (choose : ℕ → List (List ℕ) → Option Begin) → (b : Bool) → b ≡ not (there (stateOf (v .top) (v .recs) .opened))
       → Spared (beginWith d (stateOf (v .top) (v .recs)) choose)
-  unfolding beginWith
+  unfolding beginWith begun
   shut-spared choose false e = rw (need-false _ (refused 0 9 d) _ (sym e)) r9
   shut-spared choose true e =
       let s : Settled store asked origin (d .work) (v .top) (v .recs) = settled U d v (not-there (stateOf (v .top) (v .recs) .opened) (sym e)) in
       rw (need-true _ (refused 0 9 d) _ (sym e))
       (rw (need-true _ (refused 0 3 d) _ (formed-pages (d .work) (s .formed .form)))
       (rw (need-true _ (refused 0 8 d) _ (s .fine .0))
-      (spared-value _ _ _ r11 begun-spared)))
+      (spared-value _ _ _ r11 (λ g. begun-spared g _ _))))
 
   begin-spared : (choose : ℕ → List (List ℕ) → Option Begin) → Spared (beginWith d (stateOf (v .top) (v .recs)) choose)
   begin-spared choose = shut-spared choose (not (there (stateOf (v .top) (v .recs) .opened))) refl
@@ -90,6 +104,38 @@ module _ (U : UnitLaws store asked) {origin : List ℕ} (d : Lent) (v : Ran orig
   begin-order-spared =
       rw (need-true _ (refused 0 1 d) _ (two-sized U d v))
       (rw (given-some _ (logOf (v .top) (v .recs)) (refused 0 2 d) _ (known-ran U d v)) (begin-spared orderUnit))
+
+  -- what a put or delete comes to over such pages: 18, 15, or its records
+  came-spared : (g : Begin) (n : ℕ) (x : Changed) → Comes x → Spared (savingAll d (stateOf (v .top) (v .recs)) g (saving g n [] x))
+  unfolding savingAll saving imaging begins need
+  came-spared g n (cannot q) h =
+      ⊎-elim (λ (e : q ≡ 18). rw e r18) (λ (e : q ≡ 15). rw e r15) h
+  came-spared g n (sheets xs) h = begun-spared g _ _
+
+  save-shut : (g : Begin) → (b : Bool) → b ≡ not (there (stateOf (v .top) (v .recs) .opened)) → Spared (beginSave d (stateOf (v .top) (v .recs)) g)
+  unfolding beginSave resumed imagesOf
+  save-shut g false e = rw (need-false _ (refused 0 9 d) _ (sym e)) r9
+  save-shut g true e =
+      let s : Settled store asked origin (d .work) (v .top) (v .recs) = settled U d v (not-there (stateOf (v .top) (v .recs) .opened) (sym e)) in
+      rw (need-true _ (refused 0 9 d) _ (sym e))
+      (rw (need-true _ (refuses 3) _ (formed-pages (d .work) (s .formed .form)))
+      (rw (need-true _ (refuses 8) _ (s .fine .0)) (came-spared g _ (sheetsOf g (pages (d .work))) (sheets-come g (pages (d .work))))))
+
+  save-spared : (g : Begin) → Spared (beginSave d (stateOf (v .top) (v .recs)) g)
+  save-spared g = save-shut g (not (there (stateOf (v .top) (v .recs) .opened))) refl
+
+  pub begin-put-spared : Spared (Calls.beginPut d)
+  unfolding Calls.beginPut
+  begin-put-spared =
+      rw (need-true _ (refused 0 1 d) _ (two-sized U d v))
+      (rw (given-some _ (logOf (v .top) (v .recs)) (refused 0 2 d) _ (known-ran U d v))
+      (spared-test _ _ _ r12 (spared-test _ _ _ r16 (save-spared _))))
+
+  pub begin-delete-spared : (key : ℕ) → Spared (Calls.beginDelete key d)
+  unfolding Calls.beginDelete
+  begin-delete-spared key =
+      rw (need-true _ (refused 0 1 d) _ (two-sized U d v))
+      (rw (given-some _ (logOf (v .top) (v .recs)) (refused 0 2 d) _ (known-ran U d v)) (save-spared _))
 
   -- a step is accepted where a unit is open, and there is nothing to do otherwise
   step-replies : (o : Option Open) → stateOf (v .top) (v .recs) .opened ≡ o → Calls.step d .reply ≡ pick (there o) 0 10

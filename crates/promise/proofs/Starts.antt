@@ -23,13 +23,13 @@ use Rattle.tree.specs.Tree.{wellFormed, allRecords}
 use Rattle.tree.specs.Layout.{leafGroups, baseGroups, layout}
 use Rattle.laid.proofs.Laid.{Laid, layout-laws}
 use Rattle.unit.specs.Next.{repeatAll}
-use Rattle.store.specs.Calls.{Lent, lent, Left, left, refused, zeroed, threeSized, pagesSized, logSized, noneNewer, finish, recovered, todoOf, newLog}
+use Rattle.store.specs.Calls.{Lent, lent, Left, left, refused, zeroed, threeSized, pagesSized, logSized, noneNewer, finishOpen, recovered, newLog}
 use Rattle.store.specs.Calls as Calls
 use Rattle.replay.specs.Store.{Settled, Reached}
 use Rattle.promise.specs.Parts.{logOf, stateOf, store, asked}
-use Rattle.promise.specs.Promise.{InBytes}
+use Rattle.promise.specs.Promise.{InBytes, savedBy}
 use Rattle.promise.proofs.Image.{image, Stored, image-read, stored-read}
-use Rattle.promise.proofs.Forward.{none-not}
+use Rattle.promise.proofs.Forward.{none-not, left-none}
 use Rattle.promise.proofs.Recovering.{none-newer}
 use Rattle.promise.proofs.Live.{Live, image-bare}
 use Rattle.promise.proofs.Called.{bare-at, nothing-forced}
@@ -68,10 +68,10 @@ pub record Found (d : Lent) (c : Check) : Type 0 where
 
 -- nothing is repeated and nothing finished
 bare-recovered : (d : Lent) (c : Check) → given (repeatAll (c .number + 1) [] (d .store)) (zeroed 5 d) (λ w.
-    recovered d (stateOf c []) (finish (todoOf (stateOf c [] .opened)) (stateOf c []) w (d .log)))
+    recovered d (stateOf c []) (finishOpen (stateOf c [] .opened) (stateOf c []) w (d .log)))
     ≡ need (wellFormed (pages (d .store))) (zeroed 8 d)
     (left 0 (0 ∷ []) (lent (stateOf c [] .at) (stateOf c [] .at) (d .store) (d .store) (d .log) (d .bytes)))
-unfolding repeatAll given recovered finish todoOf atEnd afterAll first
+unfolding repeatAll given recovered finishOpen atEnd afterAll first
 bare-recovered d c =
     let z : c .number - c .number ≡ 0 = omega arith in
     rw z
@@ -113,9 +113,12 @@ newer-at last (suc i) (pg ∷ pgs) e h = newer-at last i pgs (both-2 _ _ e) (ome
 pages-low : (last : ℕ) (w : List ℕ) → noneNewer last (pages w) ≡ true → (p : ℕ) → p < 64 → number (page p w) ≤ last
 pages-low last w e p h = rw (← (getD-pages p w h)) (newer-at last p (pages w) e (omega (arith, length-pages w)))
 
-pub none-left-bare : (c : Check) → length (todoOf (stateOf c [] .opened)) ≡ 0
-unfolding todoOf atEnd afterAll first
-none-left-bare c = refl
+pub none-left-bare : (c : Check) (w : List ℕ) → store .left c w [] ≡ 0
+none-left-bare c w = left-none (stateOf c [] .opened) (stateOf c []) w (unfold atEnd afterAll first in refl)
+
+pub saved-bare : (rs : List (List ℕ)) → rs ≡ savedBy [] rs
+unfolding savedBy
+saved-bare rs = refl
 
 -- pages that the tests have found well formed, and a log of its check record alone
 settled-bare : (w : List ℕ) (c : Check) → length w ≡ 16384 → Bytes w → Stored c [] → allFormed 0 (pages w) ≡ true
@@ -125,14 +128,14 @@ settled-bare w c n b st f low well =
       formed = record { sized = (n, b); form = λ p h. formed-page p w f h };
       shape = (st .good, st .fits);
       low = λ p h. rw (← (number-atEnd (logOf c []))) (pages-low (stateOf c [] .number) w low p h);
-      fine = (well, refl);
-      complete = none-left-bare c;
+      fine = (well, saved-bare (allRecords (pages w)));
+      complete = none-left-bare c w;
     }
 
 -- the same pages in work and store, the numbers at the check record's end
-live-bare : (rs : List (List ℕ)) (w b : List ℕ) (c : Check) → Settled store asked w w c [] → allRecords (pages w) ≡ rs
+live-bare : (rs : List (List ℕ)) (w b : List ℕ) (c : Check) → Bytes b → Settled store asked w w c [] → allRecords (pages w) ≡ rs
     → Live rs w (lent 24 24 w w (image c []) b)
-live-bare rs w b c g e =
+live-bare rs w b c h g e =
     record {
       records = e;
       top = c;
@@ -141,24 +144,25 @@ live-bare rs w b c g e =
       reached = Reached.start g;
       log = refl;
       numbered = record { used = sym (bare-at c); forced = nothing-forced; among = omega arith };
+      bytes = h;
     }
 
-pub woken-live : (rs : List (List ℕ)) (d : Lent) (c : Check) → InBytes d → Calls.recover d .reply ≡ 0 → readLog (d .log) ≡ some (logOf c [])
-    → rs ≡ allRecords (pages (Calls.recover d .now .work)) → Live rs (Calls.recover d .now .work) (Calls.recover d .now) × (Calls.recover d .now .forced ≡ 24)
+pub woken-live : (d : Lent) (c : Check) → InBytes d → Calls.recover d .reply ≡ 0 → readLog (d .log) ≡ some (logOf c [])
+    → Live (allRecords (pages (Calls.recover d .now .work))) (Calls.recover d .now .work) (Calls.recover d .now) × (Calls.recover d .now .forced ≡ 24)
 unfolding threeSized pagesSized logSized
-woken-live rs d c b e r q =
+woken-live d c b e r =
     let f : Found d c = found-of d c r e in
     let t = all-tail _ _ (f .sized) in
     let n : length (d .store) ≡ 16384 = eqb-true (length (d .store)) 16384 (all-head _ _ t) in
     let m : length (d .log) ≡ 8192 = eqb-true (length (d .log)) 8192 (all-head _ _ (all-tail _ _ t)) in
     let st : Stored c [] = stored-read (d .log) (logOf c []) m (b .log) r in
     let i : d .log ≡ image c [] = image-read (d .log) (logOf c []) m r in
-    let k : allRecords (pages (d .store)) ≡ rs = sym (q ∙ ap (λ (x : Left). allRecords (pages (x .now .work))) (f .is)) in
     let g : Settled store asked (d .store) (d .store) c [] = settled-bare (d .store) c n (b .store) st (f .form) (f .low) (f .well) in
     let y : Left = left 0 (0 ∷ []) (lent 24 24 (d .store) (d .store) (image c []) (d .bytes)) in
     let z : Calls.recover d ≡ y =
     f .is ∙ ap₂ (λ (a : ℕ) (l : List ℕ). left 0 (0 ∷ []) (lent a a (d .store) (d .store) l (d .bytes))) (bare-at c) i in
-    (subst (λ (x : Left). Live rs (x .now .work) (x .now)) (sym z) (live-bare rs (d .store) (d .bytes) c g k), ap (λ (x : Left). x .now .forced) z)
+    (subst (λ (x : Left). Live (allRecords (pages (x .now .work))) (x .now .work) (x .now)) (sym z)
+    (live-bare (allRecords (pages (d .store))) (d .store) (d .bytes) c (b .bytes) g refl), ap (λ (x : Left). x .now .forced) z)
 
 -- ---- a finished build
 
@@ -219,9 +223,9 @@ newest-stored =
 low-zero : (last : ℕ) (w : List ℕ) → ((p : ℕ) → p < 64 → number (page p w) ≡ 0) → noneNewer last (pages w) ≡ true
 low-zero last w h = none-newer last w (λ p k. omega (arith, h p k))
 
-pub built-live : (rs : List (List ℕ)) (f g : ℕ) (d : Lent) → Bytes (d .bytes) → Calls.build f g d .reply ≡ 0
-    → rs ≡ rowsOf 16 (length (d .bytes) / 16) (d .bytes) → Live rs (Calls.build f g d .now .work) (Calls.build f g d .now) × (24 ≡ Calls.build f g d .now .forced)
-built-live rs f g d b e q =
+pub built-live : (f g : ℕ) (d : Lent) → Bytes (d .bytes) → Calls.build f g d .reply ≡ 0
+    → Live (rowsOf 16 (length (d .bytes) / 16) (d .bytes)) (Calls.build f g d .now .work) (Calls.build f g d .now) × (24 ≡ Calls.build f g d .now .forced)
+built-live f g d b e =
     let x : Built f g d = built-of f g d e in
     let k : ℕ = length (d .bytes) / 16 in
     let rows : List (List ℕ) = rowsOf 16 k (d .bytes) in
@@ -231,6 +235,6 @@ built-live rs f g d b e q =
     (x .leaves) (x .bases) in
     let s : Settled store asked (layout f g rows) (layout f g rows) newest [] =
     settled-bare (layout f g rows) newest (l .whole) (l .bytes) newest-stored (l .form) (low-zero _ (layout f g rows) (l .stamps)) (l .tree) in
-    let m : allRecords (pages (layout f g rows)) ≡ rs = l .holds ∙ sym q in
     let z = x .is ∙ ap (λ (i : List ℕ). left 0 [] (lent 24 24 (layout f g rows) (layout f g rows) i (d .bytes))) (sym (image-bare newest)) in
-    (subst (λ (y : Left). Live rs (y .now .work) (y .now)) (sym z) (live-bare rs (layout f g rows) (d .bytes) newest s m), sym (ap (λ (y : Left). y .now .forced) z))
+    (subst (λ (y : Left). Live rows (y .now .work) (y .now)) (sym z) (live-bare rows (layout f g rows) (d .bytes) newest b s (l .holds)),
+    sym (ap (λ (y : Left). y .now .forced) z))

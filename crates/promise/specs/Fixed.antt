@@ -1,4 +1,4 @@
--- "show that any two results it allows are equal", for each of the ten calls by name. A call's contract says that what the code returns and leaves,
+-- "show that any two results it allows are equal", for each of the twelve calls by name. A call's contract says that what the code returns and leaves,
 -- shown as a `Left`, is what the call's definition leaves; two results that it allows are then one, in every field of the struct that is returned
 -- and in every byte of each buffer. Assumes nothing.
 use Prim.Native.Nat.{ℕ}
@@ -41,7 +41,7 @@ abbrev pub listed : Result ListAnswer → Left
 listed x =
     left (x .answer .listed .reply) (x .answer .listed .count ∷ pick (x .answer .listed .more) 1 0 ∷ []) (numbered (x .answer .numbers) x)
 
--- ---- the ten calls
+-- ---- the twelve calls
 
 -- any two results that are shown as what the definition leaves are equal
 abbrev pub Fixes : {A : Type 0} → (shown : Result A → Left) → (means : Left) → Type 0
@@ -52,6 +52,8 @@ pub record Fixed : Type 0 where
   pub recover : (d : Lent) → Fixes recovered (Calls.recover d)
   pub beginCompact : (fill : ℕ) (d : Lent) → Fixes replied (Calls.beginCompact fill d)
   pub beginOrder : (d : Lent) → Fixes replied (Calls.beginOrder d)
+  pub beginPut : (d : Lent) → Fixes replied (Calls.beginPut d)
+  pub beginDelete : (key : ℕ) (d : Lent) → Fixes replied (Calls.beginDelete key d)
   pub step : (d : Lent) → Fixes replied (Calls.step d)
   pub flush : (p : ℕ) (d : Lent) → Fixes replied (Calls.flush p d)
   pub force : (d : Lent) → Fixes replied (Calls.force d)

@@ -11,7 +11,7 @@ use native.Mathlib.Decide.{decLe, ℕ-discrete}
 use native.Mathlib.Omega.{arith}
 use lib.ListN.{length, take, drop, length-append, take-append-drop}
 use lib.Seq.{take-append-le, take-take, take-all, take-length, length-take-le, take-nil}
-use Rattle.replay.specs.Store.{Format, last, finish, recover, Meaning, Formed, Settled, Uncut, Recovers}
+use Rattle.replay.specs.Store.{run, Format, last, finish, recover, Meaning, Formed, Settled, Uncut, Recovers}
 use Rattle.replay.specs.Laws.{Each, Stands, Passes, PageLaws, Able, closed, more, UnitLaws}
 use Rattle.replay.proofs.Each.{each-drop}
 use Rattle.replay.proofs.Runs.{Runs, done, run-snoc}
@@ -61,7 +61,7 @@ module _ (F : Format) (M : Meaning F) where
       }
 
 module _ (F : Format) (M : Meaning F) (P : PageLaws F M) (U : UnitLaws F M) where
-  open Format F using (Pages, Rec, Check, many, at, copy, stamp, apply, num, left)
+  open Format F using (Pages, Rec, Check, many, at, copy, stamp, apply, repeat, num, left)
   open Meaning M using (Sized, Checks, Tears, Event)
 
   -- ---- each rule keeps it
@@ -253,13 +253,18 @@ module _ (F : Format) (M : Meaning F) (P : PageLaws F M) (U : UnitLaws F M) wher
 
   -- ---- recovery
 
-  -- the log repeated over the store gives the run's pages, and recovery finishes from there
+  -- the log repeated over the store gives the run's pages
+  repeated-way : {o s v : Pages} {c : Check} {l : List Rec} → Settled F M o o c [] → Formed F M s → Way F M o s c l v
+      → run repeat (num c + 1) l s ≡ some v
+  repeated-way {s = s} {v = v} g f k =
+      let d = sound F M P U g (k .uncut) in
+      repeat-all F M P s v (d .stood) f (d .formed .sized) (k .repeats)
+
+  -- recovery finishes over them
   pub recover-way : {o s v : Pages} {c : Check} {l : List Rec} → Settled F M o o c [] → Formed F M s → Way F M o s c l v
       → recover F c s l ≡ finish F c (left c v l) v l
   unfolding recover bind
-  recover-way {s = s} {v = v} g f k =
-      let d = sound F M P U g (k .uncut) in
-      rw (repeat-all F M P s v (d .stood) f (d .formed .sized) (k .repeats))
+  recover-way g f k = rw (repeated-way g f k)
 
   -- it forces the log as found
   lost-repeated : {o s v : Pages} {c : Check} {l : List Rec} {f : ℕ} → Lost F M o s c l f → Way F M o s c l v → Live F M o v s c l (length l)
@@ -318,6 +323,7 @@ module _ (F : Format) (M : Meaning F) (P : PageLaws F M) (U : UnitLaws F M) wher
         let d = lost-finished in
         record {
           found = lost-way .0;
+          repeated = repeated-way (k .origin) (k .formed) (lost-way .1);
           work = d .work;
           rest = d .rest;
           log-form = able-shape F M (sound F M P U (k .origin) (lost-way .1 .uncut) .able);

@@ -5,7 +5,7 @@ use mathlib.Core.Path.{_≡_, refl, sym, _∙_, subst}
 use mathlib.Core.List.{List, [], _∷_, _++_}
 use mathlib.Core.Option.{Option, none, some, Option·some-injective, Option·none-ne-some}
 use native.Mathlib.Omega.{arith}
-use lib.ListN.{length, take}
+use lib.ListN.{length}
 use Rattle.replay.specs.Store.{Format, last, finish, recover, Meaning, Formed, Settled, Uncut, Reached, Recovers}
 use Rattle.replay.specs.Laws.{PageLaws, UnitLaws}
 use Rattle.replay.proofs.Able.{able-shape, able-next}
@@ -74,11 +74,6 @@ module _ (F : Format) (M : Meaning F) (P : PageLaws F M) (U : UnitLaws F M) wher
   -- the pages that the history names as those at the check record were settled
   pub origin-settled : {o s : Pages} {x : Option Pages} {c : Check} {l : List Rec} {f : ℕ} → Reached F M o x s c l f → Settled F M o o c []
   origin-settled g = holds g .lost .origin
-
-  -- a cut within recovery, after it forced the log as found: any number of the records that it appended may be lost
-  pub cut-in-recovery : {o w s : Pages} {x : Option Pages} {c : Check} {l l′ : List Rec} {f : ℕ} (m : ℕ) → Reached F M o x s c l f
-      → recover F c s l ≡ some (w, l′) → length l ≤ m → m ≤ length l′ → Reached F M o none s c (take m l′) (length l)
-  cut-in-recovery m g e a b = Reached.cut m (Reached.recovery g e) (omega arith) b
 
   -- ---- the single calls in an uncut run
 

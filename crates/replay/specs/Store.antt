@@ -87,7 +87,7 @@ pub record Meaning (F : Format) : Type 1 where
   pub Event : F .Check → F .Pages → List (F .Rec) → F .Pages → Type 0
 
 module _ (F : Format) (M : Meaning F) where
-  open Format F using (Pages, Rec, Check, many, at, copy, stamp, apply, num, left, next)
+  open Format F using (Pages, Rec, Check, many, at, copy, stamp, apply, repeat, num, left, next)
   open Meaning M using (Sized, Form, Shape, Fine, Begins, Checks, Tears, Event)
 
   -- pages of the right length, each in form
@@ -152,6 +152,7 @@ module _ (F : Format) (M : Meaning F) where
   -- recovery over store pages s and a log of c and l gives none of the refusals 2 to 8, and leaves what an uncut run would have left
   pub record Recovers (o s : Pages) (c : Check) (l : List Rec) : Type 0 where
     pub found : Pages  -- the log repeated, the open unit not yet finished
+    pub repeated : run repeat (num c + 1) l s ≡ some found
     pub work : Pages
     pub rest : List Rec
     -- 2, 3, 4

@@ -178,7 +178,7 @@ with-first [] s w l = refl
 with-first (x ∷ xs) s w l = refl
 
 -- test 3 and then the record
-with-open : (o : Open) (s : State) (w l : List ℕ) → stepOpen o s w l ≡ need (openFormed o w) (stopped 3) (appendOpen o s w l)
+pub with-open : (o : Open) (s : State) (w l : List ℕ) → stepOpen o s w l ≡ need (openFormed o w) (stopped 3) (appendOpen o s w l)
 unfolding stepOpen openFormed appendOpen
 with-open o s w l = by-kind (saves (o .start))
   where

@@ -11,7 +11,7 @@ use Rattle.field.proofs.Test.{both-intro, bind-intro, when-true, there-some}
 use Rattle.field.proofs.Zero.{length-zeroes}
 use Rattle.field.proofs.Byte.{bytes-append, bytes-zeroes}
 use Rattle.log.specs.Record.{Check, Rec, size, encode, sizes}
-use Rattle.log.specs.Log.{State, after, Log, readLog, encodeLog, lastForced}
+use Rattle.log.specs.Log.{State, openedBy, after, Log, readLog, encodeLog, lastForced}
 use Rattle.log.proofs.State.{at-atEnd, length-encodeLog, bytes-encodeLog}
 use Rattle.log.specs.Valid.{Fits, Good}
 use Rattle.log.proofs.Valid.{follows-sized, valid-sized, valid-narrow}
@@ -71,6 +71,10 @@ put-image c l r h f =
 pub at-grown : (c : Check) (l : List Rec) (r : Rec) → stateOf c (l ++ (r ∷ [])) .at ≡ stateOf c l .at + size r
 unfolding after
 at-grown c l r = ap (λ (s : State). s .at) (atEnd-grown (logOf c l) r)
+
+pub opened-grown : (c : Check) (l : List Rec) (r : Rec) → stateOf c (l ++ (r ∷ [])) .opened ≡ openedBy r (stateOf c l .opened)
+unfolding after
+opened-grown c l r = ap (λ (s : State). s .opened) (atEnd-grown (logOf c l) r)
 
 pub stored-grown : (c : Check) (l : List Rec) (r : Rec) → Stored c l → Fits (stateOf c l) r → stateOf c l .at + size r ≤ logLength → Stored c (l ++ (r ∷ []))
 stored-grown c l r h f room = record { good = good-grown (logOf c l) r (h .good) f; fits = rw (at-grown c l r) room }

@@ -14,5 +14,9 @@ pub mod Starts
 pub mod Rests
 pub mod Histories
 pub mod Replies
+pub mod OnTidying
+pub mod OnSaving
+pub mod OnUnits
+pub mod Demand3
 pub mod Fixed
 pub mod Contracts

@@ -18,5 +18,6 @@ pub mod OnTidying
 pub mod OnSaving
 pub mod OnUnits
 pub mod Demand3
+pub mod Untouched
 pub mod Fixed
 pub mod Contracts

@@ -12,7 +12,7 @@ use Rattle.field.specs.Bytes.{Bytes, zeroes}
 use Rattle.page.specs.Page.{rowsOf, keyOf}
 use Rattle.page.specs.Pages.{page, pages, allFormed}
 use Rattle.log.specs.Record.{Check, Begin, saves, Rec, LB, LO, LI, LM, LG, LE}
-use Rattle.log.specs.Log.{Log, readLog, atEnd, lastForced}
+use Rattle.log.specs.Log.{Open, State, after, Log, readLog, atEnd, lastForced}
 use Rattle.tree.specs.Tree.{wellFormed, allRecords}
 use Rattle.saving.specs.Save.{withRecord, withoutKey}
 use Rattle.store.specs.Calls.{Lent, lent, Left, threeSized, pagesLength, logLength, newLog, build, recover, beginCompact, beginOrder, beginPut, beginDelete, step, flush, force, checkpoint, find, list}
@@ -180,9 +180,9 @@ pub record Rests (key : ℕ) (d : Lent) : Type 0 where
       → page 0 w ≡ page 0 (d .work) → page base w ≡ page base (d .work) → page leaf w ≡ page leaf (d .work)
       → Alike (find key (lent (d .used) (d .forced) w (d .store) (d .log) (d .bytes))) (find key d)
 
--- recovery lent d is accepted, and leaves pages in form that are a well-formed tree with exactly the records rs at the check record as the surviving
--- log's begun puts and deletes have made them, every begun unit complete, log and work pages byte for byte those of a run of the surviving log without a cut, from the pages o at its check record; what find
--- then answers rests on three pages
+-- recovery lent d is accepted, and leaves pages in form that are a well-formed tree with exactly the records rs at the check record as the
+-- surviving log's begun puts and deletes have made them, every begun unit complete, log and work pages byte for byte those of a run of the
+-- surviving log without a cut, from the pages o at its check record; what find then answers rests on three pages
 pub record Kept (rs : List (List ℕ)) (o : List ℕ) (d : Lent) : Type 0 where
   pub accepted : recover d .reply ≡ 0
   pub form : allFormed 0 (pages (recover d .now .work)) ≡ true
@@ -222,3 +222,10 @@ pub record Steps (d : Lent) : Type 0 where
   pub log : Log
   pub is : readLog (d .log) ≡ some log
   pub reply : step d .reply ≡ pick (there (atEnd log .opened)) 0 10
+
+-- ---- LK
+
+-- "LK is untouched" by a put or delete: its begin record leaves the key, and so does every record while it is open
+pub record KeyStays : Type 0 where
+  pub begins : (s : State) (g : Begin) → after s (LB g) .lk ≡ s .lk
+  pub goes-on : (s : State) (o : Open) (r : Rec) → s .opened ≡ some o → saves (o .start) ≡ true → after s r .lk ≡ s .lk

@@ -16,6 +16,7 @@ use Rattle.log.proofs.Read.{readLog-facts}
 use Rattle.unit.specs.Next.{apply}
 use Rattle.saving.specs.Save.{Sheet}
 use Rattle.saving.specs.Rest.{Rest, refuses, lacks, imageOf, logging, resumed}
+use Rattle.saving.proofs.Resumes.{length-logging}
 use Rattle.saved.specs.Units.{Enters}
 use Rattle.saved.proofs.Entered.{save-enters}
 use Rattle.saved.proofs.Lacking.{Lacked, lacked, first-logs, save-saves}
@@ -64,16 +65,6 @@ by-rest (lacks (r ∷ rs)) f s w l s′ w′ l′ e = record { added = r; others
 
 -- ---- the record may come next
 
-logging-some : (u : ℕ) (ks js : List Image) → 1 ≤ length (logging ks ++ (LE u js ∷ []))
-unfolding logging
-logging-some u [] js = omega arith
-logging-some u (k ∷ ks) js = omega arith
-
-pub length-logging : (u : ℕ) (js ks : List Image) → length (logging ks ++ (LE u js ∷ [])) ≡ length ks + 1
-unfolding logging
-length-logging u js [] = refl
-length-logging u js (k ∷ ks) = omega (arith, length-logging u js ks)
-
 pub length-more : (is : List Image) (did : List Rec) → Imaged did → length (imagesOf did is) ≡ length did + length is
 unfolding imagesOf
 length-more is [] no-image = omega arith
@@ -99,7 +90,7 @@ module _ (g : Log) (o : Open) (w l : List ℕ) (whole : length w ≡ 16384) (bw 
   pub lacks-some : (rs : List Rec) → lackedBy o (atEnd g) w ≡ lacks rs → 1 ≤ length rs
   lacks-some rs e =
       let k : Lacked (o .start) first done w rs = save-lacks rs e in
-      rw (k .recs) (logging-some (o .start .unit) (k .others) (done ++ k .others))
+      rw (k .recs, length-logging (k .others) (LE (o .start .unit) (done ++ k .others) ∷ [])) (omega arith)
 
   module _ (few : length (o .did) ≤ atEnd g .number) (r : Rec) (rs : List Rec) (e : lackedBy o (atEnd g) w ≡ lacks (r ∷ rs))
       (h : atEnd g .number + suc (length rs) ≤ most4) where
@@ -114,7 +105,7 @@ module _ (g : Log) (o : Open) (w l : List ℕ) (whole : length w ≡ 16384) (bw 
     counted = (
       omega (arith, length-more [] (o .did) (keeps .images)),
       sym (length-map (all .changed) (imageOf last)) ∙ ap (λ (x : List Image). length x) (all .images) ∙ length-append done (all .others),
-      ap (λ (x : List Rec). length x) (all .recs) ∙ length-logging (o .start .unit) (done ++ all .others) (all .others),
+      ap (λ (x : List Rec). length x) (all .recs) ∙ length-logging (all .others) (LE (o .start .unit) (done ++ all .others) ∷ []),
     )
 
     last-fits : last ≤ most4

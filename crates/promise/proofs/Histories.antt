@@ -14,7 +14,7 @@ use Rattle.field.proofs.Test.{pick-true, pick-false}
 use Rattle.page.specs.Page.{rowsOf}
 use Rattle.page.specs.Pages.{pages, allFormed}
 use Rattle.page.proofs.Pages.{formed-pages}
-use Rattle.log.specs.Record.{Check, Begin, saves, Image, Rec, sizes}
+use Rattle.log.specs.Record.{Check, Begin, saves, Image, Rec, LE, sizes}
 use Rattle.log.specs.Plan.{close, plan}
 use Rattle.log.specs.Log.{Open, State, beginOk, imagesOf, readLog}
 use Rattle.log.proofs.State.{at-atEnd}
@@ -27,10 +27,10 @@ use Rattle.unit.proofs.Rooms.{Plan, plan-body}
 use Rattle.saving.specs.Save.{sheets}
 use Rattle.saving.specs.Rest.{imageOf, Rest, refuses, lacks}
 use Rattle.saving.proofs.Replies.{Comes, sheets-come}
+use Rattle.saving.proofs.Resumes.{length-logging}
 use Rattle.saved.proofs.Lacking.{Lacked, lacked}
 use Rattle.store.specs.Calls.{Lent, lent, Left, left, threeSized, logLength, lackedBy}
 use Rattle.store.specs.Calls as Calls
-use Rattle.forward.proofs.Saves.{length-logging}
 use Rattle.replay.specs.Store.{Formed, Reached, Recovers}
 use Rattle.replay.specs.Laws.{UnitLaws}
 use Rattle.replay.proofs.Theorem.{theorem, origin-settled, ran-formed}
@@ -63,7 +63,7 @@ few-lacked g n is w rs k =
     let few : Comes (sheets (k .changed)) = subst Comes (k .are) (sheets-come g (pages w)) in
     let m : length (k .changed) ≡ length is + length (k .others) =
     sym (length-map (k .changed) (imageOf (n + length (k .changed) + 1))) ∙ ap length (k .images) ∙ length-append is (k .others) in
-    let r : length rs ≡ length (k .others) + 1 = ap length (k .recs) ∙ length-logging (g .unit) (is ++ k .others) (k .others) in
+    let r : length rs ≡ length (k .others) + 1 = ap length (k .recs) ∙ length-logging (k .others) (LE (g .unit) (is ++ k .others) ∷ []) in
     omega (arith, few, m, r)
 
 rest-few : (x : Rest) → ((rs : List Rec) → x ≡ lacks rs → length rs ≤ 25) → lackedLong x ≤ 25

@@ -22,12 +22,12 @@ use Rattle.unit.specs.Next.{targets, apply}
 use Rattle.unit.proofs.Pagewise.{apply-stays}
 use Rattle.saving.specs.Save.{Sheet}
 use Rattle.saving.specs.Rest.{imageOf, Rest, lacks, logging, restOf}
+use Rattle.saving.proofs.Resumes.{length-logging}
 use Rattle.saved.specs.Saved.{laid, Saves}
 use Rattle.saved.specs.Units.{Lower, Resumes, Enters}
 use Rattle.saved.proofs.Ended.{save-ends}
 use Rattle.store.specs.Calls.{logLength, lackedBy}
 use Rattle.replay.specs.Laws.{Able, closed, more}
-use Rattle.forward.proofs.Saves.{length-logging}
 use Rattle.promise.specs.Promise.{savedBy}
 use Rattle.promise.specs.Parts.{logOf, stateOf, firstOf, leftOf, nextIn, store, asked}
 use Rattle.promise.proofs.Image.{Stored, at-grown, opened-grown, stored-grown}
@@ -97,7 +97,7 @@ module _ (origin : List ℕ) (c : Check) (w : List ℕ) (g : Begin) (n : ℕ) (x
     counted : (length xs ≡ length is + length ks) × (length (others ks) ≡ length ks + 1)
     counted = (
       sym (length-map xs (imageOf last)) ∙ ap length (sym (res .are)) ∙ ap length all ∙ length-append is ks,
-      length-logging (g .unit) (res .images) ks,
+      length-logging ks (LE (g .unit) (res .images) ∷ []),
     )
 
     -- a record that the unit may log comes next

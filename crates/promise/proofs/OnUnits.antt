@@ -31,6 +31,7 @@ use Rattle.unit.specs.Choice.{fillOf, larger, compactOf, chooseCompact, compact
 use Rattle.unit.specs.Next.{apply, room}
 use Rattle.saving.specs.Save.{withRecord, withoutKey}
 use Rattle.saving.specs.Rest.{imageOf, lacks, logging, restOf}
+use Rattle.saving.proofs.Resumes.{length-logging}
 use Rattle.saved.specs.Saved.{Saves}
 use Rattle.saved.specs.Units.{Resumes, Enters}
 use Rattle.saved.proofs.Resumed.{save-resumes}
@@ -40,14 +41,13 @@ use Rattle.tidy.specs.Tidy.{Tidy, Keeps}
 use Rattle.store.specs.Calls.{logLength, deleting, checkpointed}
 use Rattle.store.proofs.Chosen.{saves-put, saves-delete, put-ok, delete-ok}
 use Rattle.putting.proofs.Puts.{deleting-long!}
-use Rattle.forward.proofs.Saves.{length-logging}
 use Rattle.replay.specs.Store.{Settled}
 use Rattle.replay.specs.Laws.{Able, UnitLaws}
 use Rattle.promise.specs.Promise.{savedBy}
 use Rattle.promise.specs.Parts.{logOf, stateOf, store, asked, Chooses, Carries, to-put, to-delete, Wants, tidying, saving, Begins, Checks}
 use Rattle.promise.proofs.Image.{Stored, at-grown, opened-grown, stored-grown}
 use Rattle.promise.proofs.Saved.{saved-begun, saved-tidies, saved-saves}
-use Rattle.promise.proofs.Forward.{open-none}
+use Rattle.promise.proofs.Forward.{none-not, open-none}
 use Rattle.promise.proofs.OnTidying.{carried-able, begun-opened}
 use Rattle.promise.proofs.OnSaving.{Opened, save-able}
 use Rattle.promise.proofs.Called.{bare-at, apply-begin}
@@ -66,10 +66,7 @@ is-unit u h i g e = sym (ap (λ (x : Begin). x .unit) (Option·some-injective h 
 
 choose-unit : (u fill low : ℕ) (lk : Option ℕ) (ps : List (List ℕ)) (ls : List Leaf) (g : Begin) → chooseCompact u fill low lk ps ls ≡ some g → g .unit ≡ u
 unfolding chooseCompact compactOf
-choose-unit u fill low lk ps [] g e = absurd (none-some e)
-  where
-    none-some : none ≡ some g → ⊥
-    none-some q = let z : _≡_ {A = ℕ} 0 1 = cc in omega arith
+choose-unit u fill low lk ps [] g e = absurd (none-not g e)
 choose-unit u fill low lk ps (c ∷ next) g e =
     some-unit u _ (chooseCompact u fill (larger low (c .at)) lk ps next) _ (is-unit u _ refl)
     (λ h q. choose-unit u fill (larger low (c .at)) lk ps next h q) g e
@@ -84,10 +81,7 @@ put-unit u wanted ps ls l = by-pick (emptyLeaf wanted (getD ps wanted []))
 
 order-unit : (u : ℕ) (ps : List (List ℕ)) (ls : List Leaf) (i : ℕ) (rest : List Leaf) (g : Begin) → chooseOrder u ps ls i rest ≡ some g → g .unit ≡ u
 unfolding chooseOrder
-order-unit u ps ls i [] g e = absurd (none-some e)
-  where
-    none-some : none ≡ some g → ⊥
-    none-some q = let z : _≡_ {A = ℕ} 0 1 = cc in omega arith
+order-unit u ps ls i [] g e = absurd (none-not g e)
 order-unit u ps ls i (l ∷ rest) g e =
     some-unit u (chooseOrder u ps ls (i + 1) rest) _ (eqb (l .at) (place i)) (λ h q. order-unit u ps ls (i + 1) rest h q)
     (is-unit u _ (put-unit u (place i) ps ls l)) g e
@@ -160,7 +154,7 @@ module _ (origin : List ℕ) (c : Check) (w : List ℕ) (l : List Rec) (g : Begi
 
   many : length rs ≡ length (all .changed) + 1
   many =
-      ap length (all .recs) ∙ length-logging (g .unit) (all .others) (all .others)
+      ap length (all .recs) ∙ length-logging (all .others) (LE (g .unit) (all .others) ∷ [])
       ∙ ap (λ (k : ℕ). k + 1) (ap length (sym (all .images)) ∙ length-map (all .changed) (imageOf last))
 
   few : last ≤ most4
@@ -215,10 +209,7 @@ module _ (origin : List ℕ) (c : Check) (w : List ℕ) (l : List Rec) (g : Begi
 -- LK as it was, or cleared
 lk-kept : (b : Bool) (lk : Option ℕ) (k : ℕ) → ((j : ℕ) → lk ≡ some j → j ≤ most4) → pick b none lk ≡ some k → k ≤ most4
 unfolding pick
-lk-kept true lk k h e = absurd (none-some e)
-  where
-    none-some : none ≡ some k → ⊥
-    none-some q = let z : _≡_ {A = ℕ} 0 1 = cc in omega arith
+lk-kept true lk k h e = absurd (none-not k e)
 lk-kept false lk k h e = h k e
 
 -- ---- the laws

@@ -6,8 +6,8 @@ use native.Mathlib.Numerals.{add-one}
 use native.Mathlib.Omega.{arith}
 use mathlib.Core.Path.{_≡_, refl, sym, ap, ap₂, _∙_}
 use mathlib.Core.Bool.{Bool, true, false, not, false≢true}
-use mathlib.Core.List.{List, [], _∷_, map}
-use lib.ListN.{length, take, drop, getD, length-drop}
+use mathlib.Core.List.{List, [], _∷_, _++_, map, append-nil}
+use lib.ListN.{length, take, drop, getD, length-append, length-drop, length-map, drop-of-length-le}
 use lib.Seq.{drop-drop}
 use lib.Dec.{eqb}
 use borrow.Rule.Slice.PartAt.{part-to-end}
@@ -31,9 +31,10 @@ use Rattle.saving.specs.Draft.{sheetOf, Ready, draftAt, Plans}
 use Rattle.saving.specs.Rest.{imageOf, begins}
 use Rattle.saving.specs.declared.draft.Draft.{Draft}
 use Rattle.saving.specs.declared.plan.Plan.{Plan}
+use Rattle.saving.proofs.Resumes.{begins-split}
 use Rattle.saving.proofs.Told.{told-ready, told-count, told-at}
 use Rattle.resuming.specs.Lacking.{drafted, Unfinished, recordOn, lastNumber}
-use Rattle.resuming.proofs.Stages.{length-mapped, length-drafted}
+use Rattle.resuming.proofs.Stages.{length-drafted}
 
 -- ---- one image
 
@@ -179,23 +180,11 @@ begins-high n p (i ∷ is) (j ∷ js) f h k = all-third _ _ _ _ (ne-eqb (number 
 
 -- those logged are no more than those worked out, and where they are as many, the same
 pub begins-few : (n : ℕ) (is js : List Image) → begins n is js ≡ true → length is ≤ length js
-unfolding begins
-begins-few n [] js e = omega arith
-begins-few n (i ∷ is) [] e = absurd (false≢true e)
-begins-few n (i ∷ is) (j ∷ js) e = omega (arith, begins-few n is js (all-head _ _ (all-tail _ _ (all-tail _ _ (all-tail _ _ e)))))
-
-same-image : (i j : Image) → i .at ≡ j .at → i .bytes ≡ j .bytes → i ≡ j
-same-image i j p q = rw (p, q)
+begins-few n is js e = omega (arith, ap length (begins-split n is js e), length-append is (drop (length is) js))
 
 pub begins-all : (n : ℕ) (is js : List Image) → begins n is js ≡ true → length js ≤ length is → is ≡ js
-unfolding begins
-begins-all n [] [] e h = refl
-begins-all n [] (j ∷ js) e h = absurd (not-suc-le-zero h)
-begins-all n (i ∷ is) [] e h = absurd (false≢true e)
-begins-all n (i ∷ is) (j ∷ js) e h =
-    let t = all-tail _ _ e in
-    ap₂ (λ (x : Image) (y : List Image). x ∷ y) (same-image i j (eqb-true _ _ (all-head _ _ e)) (same-eq _ _ (all-head _ _ t)))
-    (begins-all n is js (all-head _ _ (all-tail _ _ (all-tail _ _ t))) (omega arith))
+begins-all n is js e h =
+    sym (begins-split n is js e ∙ ap (λ (ks : List Image). is ++ ks) (drop-of-length-le js h) ∙ append-nil is)
 
 length-images : (k : ℕ) (m : List ℕ) → length (imagesIn k m) ≡ k
 unfolding imagesIn
@@ -245,7 +234,7 @@ module _ (l : List ℕ) (w : Walk) where
     agree-few h p =
         let xs : List Sheet = drafted (pages v) (recordOn l w) x in
         let js : List Image = map (imageOf (lastNumber w (x .count))) xs in
-        let c : length js ≡ x .count = length-mapped (imageOf (lastNumber w (x .count))) xs ∙ length-drafted v (recordOn l w) x _ p in
+        let c : length js ≡ x .count = length-map xs (imageOf (lastNumber w (x .count))) ∙ length-drafted v (recordOn l w) x _ p in
         let k : length js < length (imagesOn l w) = omega (arith, c, many-images) in
         sym (begins-long (lastNumber w (x .count)) (imagesOn l w) js k)
 

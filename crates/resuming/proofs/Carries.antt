@@ -5,7 +5,7 @@ use mathlib.Core.Path.{_≡_, refl, sym, ap, ap₂, _∙_}
 use mathlib.Core.Bool.{Bool, true, false}
 use mathlib.Core.List.{List, [], _∷_, _++_, map}
 use mathlib.Core.Option.{some}
-use lib.ListN.{length, take, drop, getD, drop-of-length-le}
+use lib.ListN.{length, take, drop, getD, length-map, drop-of-length-le}
 use lib.Seq.{getD-drop}
 use lib.Dec.{leb}
 use borrow.Author.Tests.{leb-true, le-leb, lt-leb}
@@ -29,7 +29,7 @@ use Rattle.saving.specs.declared.draft.Draft.{Draft}
 use Rattle.saving.specs.declared.plan.Plan.{Plan}
 use Rattle.resuming.specs.Lacking.{worked, compared, lacking, drafted, Unfinished, typeOn, recordOn, firstNumber, lastNumber, lacked}
 use Rattle.resuming.specs.Concluded.{Outcome, outcome, firstOf, concluded, restOn, concludedOn, tested}
-use Rattle.resuming.proofs.Stages.{resumed-by, compared-begins, plan-refuses, plan-lists, length-drafted, plans-of, length-mapped, lacking-sizes, lacking-count}
+use Rattle.resuming.proofs.Stages.{resumed-by, compared-begins, plan-refuses, plan-lists, length-drafted, plans-of, lacking-sizes, lacking-count}
 use Rattle.resuming.proofs.Agrees.{many-images, record-lent, images-lent, begins-few, begins-all, draft-next}
 
 -- ---- tests 6 and 7
@@ -126,7 +126,7 @@ module _ (l v : List ℕ) (w : Walk) (u : Unfinished l w) (x : Plan) (p : Plans 
     begun = compared-begins (firstNumber w) is (worked (typeOn l w) (recordOn l w) v) xs lists
 
     length-js : length js ≡ x .count
-    length-js = length-mapped (imageOf last) xs ∙ many
+    length-js = length-map xs (imageOf last) ∙ many
 
     pub done-few : w .done ≤ x .count
     done-few = omega (arith, begins-few last is js begun, length-js, many-images l w)

@@ -4,7 +4,7 @@ use native.Mathlib.Omega.{arith}
 use mathlib.Core.Path.{_≡_, refl, sym, ap, _∙_}
 use mathlib.Core.Bool.{Bool, true, false, not}
 use mathlib.Core.List.{List, [], _∷_, _++_, map}
-use lib.ListN.{length, drop, getD, length-drop}
+use lib.ListN.{length, drop, getD, length-drop, length-map}
 use lib.Seq.{length-take-le}
 use borrow.Author.Tests.{eq-eqb, ne-eqb, not-true, not-false}
 use Rattle.field.specs.Test.{need}
@@ -17,6 +17,7 @@ use Rattle.tree.specs.Tree.{wellFormed}
 use Rattle.saving.specs.Save.{Sheet, Changed, cannot, sheets, putSheets, deleteSheets}
 use Rattle.saving.specs.Draft.{planned, Plans}
 use Rattle.saving.specs.Rest.{imageOf, sheetsOf, refuses, lacks, begins, logging, imaging, saving, resumed}
+use Rattle.saving.proofs.Resumes.{length-logging}
 use Rattle.saving.specs.declared.plan.Plan.{Plan}
 use Rattle.resuming.specs.Lacking.{worked, compared, lacking, drafted, Needs}
 
@@ -130,15 +131,6 @@ unfolding logging sizes size carried kindOf lengthOf
 sizes-logging [] rs = omega arith
 sizes-logging (i ∷ is) rs = omega (arith, sizes-logging is rs)
 
-length-logging : (is : List Image) (rs : List Rec) → length (logging is ++ rs) ≡ length is + length rs
-unfolding logging
-length-logging [] rs = omega arith
-length-logging (i ∷ is) rs = omega (arith, length-logging is rs)
-
-pub length-mapped : (f : Sheet → Image) (xs : List Sheet) → length (map f xs) ≡ length xs
-length-mapped f [] = refl
-length-mapped f (x ∷ xs) = ap suc (length-mapped f xs)
-
 -- where some images of xs are logged, LGs of the others and the LE are lacked
 module _ (u n : ℕ) (is : List Image) (xs : List Sheet) where
   abbrev last : ℕ
@@ -149,10 +141,10 @@ module _ (u n : ℕ) (is : List Image) (xs : List Sheet) where
 
   pub lacking-sizes : sizes (logging (drop (length is) images) ++ (LE u images ∷ [])) ≡ 272 * (length xs - length is) + 16
   unfolding sizes size carried kindOf lengthOf
-  lacking-sizes = sizes-logging (drop (length is) images) (LE u images ∷ []) ∙ rw (length-drop (length is) images, length-mapped (imageOf last) xs)
+  lacking-sizes = sizes-logging (drop (length is) images) (LE u images ∷ []) ∙ rw (length-drop (length is) images, length-map xs (imageOf last))
 
   pub lacking-count : length (logging (drop (length is) images) ++ (LE u images ∷ [])) ≡ length xs - length is + 1
-  lacking-count = length-logging (drop (length is) images) (LE u images ∷ []) ∙ rw (length-drop (length is) images, length-mapped (imageOf last) xs)
+  lacking-count = length-logging (drop (length is) images) (LE u images ∷ []) ∙ rw (length-drop (length is) images, length-map xs (imageOf last))
 
 -- ---- before the unit begins
 

@@ -2,16 +2,14 @@
 -- records may come next in the log. Assumes nothing.
 use Prim.Native.Nat.{ℕ, _+_, _≤_}
 use native.Mathlib.Omega.{arith}
-use mathlib.Core.Path.{_≡_, refl, sym, ap, ap₂, _∙_, subst}
-use mathlib.Core.Bool.{Bool, true, false, false≢true}
+use mathlib.Core.Path.{_≡_, refl, sym, ap, _∙_, subst}
+use mathlib.Core.Bool.{Bool, true, false}
 use mathlib.Core.List.{List, [], _∷_, _++_, map, append-nil}
-use borrow.Author.Tests.{eqb-true}
 use lib.ListN.{length, drop, getD}
 use lib.Dec.{eqb}
-use Rattle.field.specs.Test.{pick, need}
+use Rattle.field.specs.Test.{pick}
 use Rattle.field.specs.Bytes.{Bytes, most4}
-use Rattle.field.proofs.Test.{all-head, all-tail, both-1}
-use Rattle.field.proofs.Same.{same-eq}
+use Rattle.field.proofs.Test.{both-1}
 use Rattle.page.specs.Page.{leaf, keyOf, ascendRecords}
 use Rattle.page.specs.Each.{Each, Long}
 use Rattle.page.specs.Pages.{pages, allFormed}
@@ -23,6 +21,7 @@ use Rattle.log.specs.Valid.{Logs, Bears}
 use Rattle.log.proofs.Begin.{beginOk-saved, begin-carries}
 use Rattle.saving.specs.Save.{Sheet, Changed, cannot, sheets, withRecord, withoutKey, putSheets, deleteSheets}
 use Rattle.saving.specs.Rest.{imageOf, sheetsOf, Rest, refuses, lacks, begins, logging, imaging, saving, resumed}
+use Rattle.saving.proofs.Resumes.{begins-split, lacks-same, refuses-not, need-lacks}
 use Rattle.tidy.specs.Tidy.{Tidy}
 use Rattle.saved.specs.Saved.{Saves, Row, RowOf}
 use Rattle.saved.specs.Units.{Enters}
@@ -39,30 +38,6 @@ pub record Lacked (g : Begin) (n : ℕ) (is : List Image) (w : List ℕ) (rs : L
   pub images : map (imageOf (n + length changed + 1)) changed ≡ is ++ others
   pub recs : rs ≡ logging others ++ (LE (g .unit) (is ++ others) ∷ [])
 
-same-image : (i j : Image) → i .at ≡ j .at → i .bytes ≡ j .bytes → j ≡ i
-same-image i j p q = rw (p, q)
-
--- the images logged are the first of those worked out
-begins-split : (n : ℕ) (is js : List Image) → begins n is js ≡ true → js ≡ is ++ drop (length is) js
-unfolding begins
-begins-split n [] js e = refl
-begins-split n (i ∷ is) [] e = absurd (false≢true e)
-begins-split n (i ∷ is) (j ∷ js) e =
-    let t = all-tail _ _ e in
-    ap₂ (λ (x : Image) (y : List Image). x ∷ y) (same-image i j (eqb-true _ _ (all-head _ _ e)) (same-eq _ _ (all-head _ _ t)))
-    (begins-split n is js (all-head _ _ (all-tail _ _ (all-tail _ _ t))))
-
-refuses-not : (r : ℕ) (rs : List Rec) → refuses r ≡ lacks rs → ⊥
-refuses-not r rs e = let z : _≡_ {A = ℕ} 0 1 = cc in omega arith
-
-need-lacks : (t : Bool) (r : ℕ) (y : Rest) (rs : List Rec) → need t (refuses r) y ≡ lacks rs → (t ≡ true) × (y ≡ lacks rs)
-unfolding need
-need-lacks true r y rs e = (refl, e)
-need-lacks false r y rs e = absurd (refuses-not r rs e)
-
-lacks-same : (a b : List Rec) → lacks a ≡ lacks b → b ≡ a
-lacks-same a b e = cc
-
 by-changed : (g : Begin) (n : ℕ) (is : List Image) (w : List ℕ) (rs : List Rec) → Tidy w → (c : Changed) → sheetsOf g (pages w) ≡ c → saving g n is c ≡ lacks rs
     → Lacked g n is w rs
 unfolding saving imaging
@@ -77,7 +52,7 @@ by-changed g n is w rs t (sheets xs) e h =
       are = e;
       others = drop (length is) js;
       images = s;
-      recs = lacks-same _ rs (a .1) ∙ ap (λ (k : List Image). logging (drop (length is) js) ++ (LE (g .unit) k ∷ [])) s;
+      recs = sym (lacks-same _ rs (a .1)) ∙ ap (λ (k : List Image). logging (drop (length is) js) ++ (LE (g .unit) k ∷ [])) s;
     }
 
 pub lacked : (g : Begin) (n : ℕ) (is : List Image) (w : List ℕ) (rs : List Rec) → length w ≡ 16384 → Bytes w → resumed g n is w ≡ lacks rs → Lacked g n is w rs

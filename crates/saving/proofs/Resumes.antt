@@ -2,8 +2,8 @@
 -- rest. Assumes nothing.
 use Prim.Native.Nat.{ℕ, suc, _+_, _-_, _≤_}
 use native.Mathlib.Omega.{arith}
-use mathlib.Core.Path.{_≡_, refl, sym, ap, _∙_}
-use mathlib.Core.Bool.{Bool, true, false}
+use mathlib.Core.Path.{_≡_, refl, sym, ap, ap₂, _∙_}
+use mathlib.Core.Bool.{Bool, true, false, false≢true}
 use mathlib.Core.List.{List, [], _∷_, _++_, map}
 use borrow.Author.Tests.{eq-eqb, eqb-true}
 use lib.ListN.{length, drop, length-drop, length-map}
@@ -11,7 +11,7 @@ use lib.Dec.{eqb}
 use Rattle.field.specs.Test.{both, all, need}
 use Rattle.field.specs.Bytes.{same, most4}
 use Rattle.field.proofs.Test.{all-head, all-tail, all-intro, all-nil, need-true}
-use Rattle.field.proofs.Same.{same-refl}
+use Rattle.field.proofs.Same.{same-eq, same-refl}
 use Rattle.page.specs.Page.{number}
 use Rattle.page.specs.Pages.{pages, allFormed}
 use Rattle.page.proofs.Made.{number-made}
@@ -50,6 +50,19 @@ begins-more n (i ∷ is) (j ∷ js) k ks b t e =
     let r = begins-more n is js k ks (b .1) (all-head _ _ (all-tail _ _ t2)) e in
     (all-intro _ _ (all-head _ _ t) (all-intro _ _ (all-head _ _ t1) (all-intro _ _ (all-head _ _ t2) (all-intro _ _ (r .0) all-nil))), r .1)
 
+-- those behind them are the others
+pub begins-split : (n : ℕ) (is js : List Image) → begins n is js ≡ true → js ≡ is ++ drop (length is) js
+unfolding begins
+begins-split n [] js e = refl
+begins-split n (i ∷ is) [] e = absurd (false≢true e)
+begins-split n (i ∷ is) (j ∷ js) e =
+    let t = all-tail _ _ e in
+    ap₂ (λ (x : Image) (y : List Image). x ∷ y) (sym (same-image i j (eqb-true _ _ (all-head _ _ e)) (same-eq _ _ (all-head _ _ t))))
+    (begins-split n is js (all-head _ _ (all-tail _ _ (all-tail _ _ t))))
+  where
+    same-image : (i j : Image) → i .at ≡ j .at → i .bytes ≡ j .bytes → i ≡ j
+    same-image i j p q = rw (p, q)
+
 -- ---- what is lacked
 
 -- an LG in front of an LE's unit: the image to be logged next
@@ -59,13 +72,13 @@ unfolding logging
 logging-first u js [] k rs e = let z : _≡_ {A = ℕ} 0 1 = cc in absurd (omega arith)
 logging-first u js (l ∷ ls) k rs e = let a : l ≡ k = cc in let b : rs ≡ logging ls ++ (LE u js ∷ []) = cc in (ls, ap (λ (x : Image). x ∷ ls) a, b)
 
-lacks-same : (a b : List Rec) → lacks a ≡ lacks b → a ≡ b
+pub lacks-same : (a b : List Rec) → lacks a ≡ lacks b → a ≡ b
 lacks-same a b e = cc
 
-refuses-not : (r : ℕ) (rs : List Rec) → refuses r ≡ lacks rs → ⊥
+pub refuses-not : (r : ℕ) (rs : List Rec) → refuses r ≡ lacks rs → ⊥
 refuses-not r rs e = let z : _≡_ {A = ℕ} 0 1 = cc in omega arith
 
-need-lacks : (t : Bool) (r : ℕ) (y : Rest) (rs : List Rec) → need t (refuses r) y ≡ lacks rs → (t ≡ true) × (y ≡ lacks rs)
+pub need-lacks : (t : Bool) (r : ℕ) (y : Rest) (rs : List Rec) → need t (refuses r) y ≡ lacks rs → (t ≡ true) × (y ≡ lacks rs)
 unfolding need
 need-lacks true r y rs e = (refl, e)
 need-lacks false r y rs e = absurd (refuses-not r rs e)
@@ -79,10 +92,10 @@ imaging-more u n is js k rs b e =
     let z = begins-more n is js k (y .0) b (x .0) (y .1) in
     need-true (begins n (is ++ k ∷ []) js) (refuses 5) _ (z .0) ∙ rw (z .1, ← y .2)
 
-length-logging : (u : ℕ) (js ls : List Image) → length (logging ls ++ (LE u js ∷ [])) ≡ length ls + 1
+pub length-logging : (is : List Image) (rs : List Rec) → length (logging is ++ rs) ≡ length is + length rs
 unfolding logging
-length-logging u js [] = refl
-length-logging u js (l ∷ ls) = omega (arith, length-logging u js ls)
+length-logging [] rs = omega arith
+length-logging (i ∷ is) rs = omega (arith, length-logging is rs)
 
 -- LE's number fits, by test 7 for all that is lacked
 end-fits : (u n m : ℕ) (is js : List Image) (k : Image) (rs : List Rec) → n + length is + suc (length rs) ≤ most4 → length js ≡ m → imaging u (n + m + 1) is js ≡ lacks (LG k ∷ rs)
@@ -93,7 +106,7 @@ end-fits u n m is js k rs h j e =
     let y = logging-first u js (drop (length is) js) k rs (lacks-same _ _ (x .1)) in
     let d : length (drop (length is) js) ≡ length js - length is = length-drop (length is) js in
     let c : length (drop (length is) js) ≡ suc (length (y .0)) = ap (λ (l : List Image). length l) (y .1) in
-    let r : length rs ≡ length (y .0) + 1 = ap (λ (l : List Rec). length l) (y .2) ∙ length-logging u js (y .0) in
+    let r : length rs ≡ length (y .0) + 1 = ap (λ (l : List Rec). length l) (y .2) ∙ length-logging (y .0) (LE u js ∷ []) in
     omega (arith, h, d, c, r, j)
 
 -- the LG logged, the rest is lacked

@@ -19,7 +19,7 @@ use Rattle.tree.specs.Tree.{wellFormed}
 use Rattle.unit.specs.Choice.{compactUnit, orderUnit}
 use Rattle.unit.specs.Chosen.{Picks}
 use Rattle.unit.specs.declared.choice.Choice.{Choice}
-use Rattle.store.specs.Calls.{Lent, lent, Left, left, refused, twoSized, known, begun, beginWith, beginCompact, beginOrder}
+use Rattle.store.specs.Calls.{Lent, lent, Left, refused, twoSized, known, begun, beginWith, beginCompact, beginOrder}
 use Rattle.starting.specs.Begins.{unready, recordOf}
 use Rattle.store.specs.Knows.{knows}
 use Rattle.store.proofs.Passed.{Knows, knows-yes}

@@ -1,26 +1,27 @@
--- Small facts of document 01 that the definitions have, by computing: what is expected stands here in figures and bytes. An edit that denies one
+-- Small facts of documents 01 and 02 that the definitions have, by computing: what is expected stands here in figures and bytes. An edit that denies one
 -- must be refused, and costs the check of this small crate alone, where the same edit of code costs that of a large one. Assumes nothing.
 use Prim.Native.Nat.{ℕ}
 use mathlib.Core.Bool.{Bool, true, false, not}
-use mathlib.Core.List.{List, [], _∷_, _++_}
+use mathlib.Core.List.{List, [], _∷_, _++_, map}
 use mathlib.Core.Option.{Option, some, none}
 use lib.ListN.{length}
 use lib.Dec.{eqb}
 use Rattle.field.specs.Test.{both, pick, given, there}
 use Rattle.field.specs.Bytes.{zeroes, same, le4}
-use Rattle.page.specs.Page.{rowsOf, isBase, isLeaf}
+use Rattle.page.specs.Page.{rowsOf, joined, isBase, isLeaf}
 use Rattle.page.specs.Change.{removed}
-use Rattle.page.specs.Pages.{page}
-use Rattle.log.specs.Record.{modify, lengthOf, Begin, LB, LO, LI, LE}
-use Rattle.log.specs.Log.{Open, largestMoved, openedBy}
+use Rattle.page.specs.Pages.{page, pages}
+use Rattle.log.specs.Record.{begin, modify, image, lengthOf, Begin, Image, LB, LO, LI, LG, LE, encode}
+use Rattle.log.specs.Log.{Open, largestMoved, openedBy, carriesOk, imaged}
 use Rattle.log.specs.Scan.{begun, shut}
 use Rattle.log.specs.Source.{sourceAt}
 use Rattle.tree.specs.Tree.{Leaf}
 use Rattle.tree.specs.Answer.{lastNotAbove, countWritten}
 use Rattle.tree.specs.Layout.{layout}
 use Rattle.unit.specs.Choice.{group}
-use Rattle.unit.specs.Next.{targets}
-use Rattle.rows.specs.Rows.{four, two, recs, en, pg}
+use Rattle.unit.specs.Next.{targets, change}
+use Rattle.saving.specs.Save.{Changed, cannot, sheets, putSheets, unite}
+use Rattle.rows.specs.Rows.{four, two, recs, en, pg, leaf1, emptyPage, empties, upper}
 
 -- a base page of one entry, with the entry's second mark byte
 unfoldable pub marked : (second : ℕ) → List ℕ
@@ -79,7 +80,7 @@ endEnds =
 
 -- what a swap's second LI brings in stands behind LB: 44 bytes after 24, where the unit begins
 unfoldable pub sourceBehind : Bool
-sourceBehind = eqb (sourceAt (begun (shut true 24 1 0 false 0)) 3) 68
+sourceBehind = eqb (sourceAt (begun (shut true 24 1 0 false 0) 0) 3) 68
 
 -- leaf pages 8 and 9 with two records each under base page 1
 unfoldable pub leafOn : (p : ℕ) → Leaf
@@ -97,7 +98,50 @@ beginChangesNone = both (eqb (length (targets (LO 9 8 []))) 1) (eqb (length (tar
 unfoldable pub equalPasses : Bool
 equalPasses = eqb (given (lastNotAbove 50 none (rowsOf 8 2 (en 0 8 ++ en 50 9))) 0 (λ p. p)) 9
 
+-- ---- put and delete
+
+-- a begin record with its record has 60 bytes, an LG 272
+unfoldable pub savesLong : Bool
+savesLong = both (eqb (lengthOf begin 1) 60) (eqb (lengthOf image 1) 272)
+
+-- how many rows each changed page has, or the reply
+unfoldable pub counts : Changed → List ℕ
+counts (cannot reply) = reply ∷ []
+counts (sheets xs) = map (λ x. length (x .rows)) xs
+
+-- page 8 is full, under base page 1
+unfoldable pub fullLeaf : List (List ℕ)
+fullLeaf = pages (upper 1 0 (en 0 8) ++ (pg 108 15 0 (recs (1 ∷ 2 ∷ 3 ∷ 4 ∷ 5 ∷ 6 ∷ 7 ∷ 8 ∷ 9 ∷ 10 ∷ 11 ∷ 12 ∷ 13 ∷ 14 ∷ 15 ∷ [])) ++ empties 55))
+
+-- of 16 records the lower 8 stay; the base page has two entries then
+unfoldable pub splitsEven : Bool
+splitsEven = same (counts (putSheets (recs (16 ∷ [])) fullLeaf)) (2 ∷ 8 ∷ 8 ∷ [])
+
+-- the first entry's range joins the right, whose key becomes the first's; another's joins the left, whose key stays
+unfoldable pub joinsBoth : Bool
+joinsBoth =
+    both (same (joined (unite 10 (rowsOf 8 2 (en 0 8 ++ en 50 9)))) (en 0 9)) (same (joined (unite 50 (rowsOf 8 2 (en 0 8 ++ en 50 9)))) (en 0 8))
+
+-- page 8 with one record, as an image that bears this number
+unfoldable pub imageWith : (number : ℕ) → Image
+imageWith n = record { at = 8; bytes = leaf1 n 20 }
+
+-- an LE with the number 5 changes a page whose number is lower, and no other; an LG changes none
+unfoldable pub onlyLower : Bool
+onlyLower =
+    both (given (change 5 (LE 1 (imageWith 5 ∷ [])) 8 (emptyPage 4)) false (λ p. same p (leaf1 5 20)))
+    (both (given (change 5 (LE 1 (imageWith 5 ∷ [])) 8 (emptyPage 5)) false (λ p. same p (emptyPage 5))) (eqb (length (targets (LG (imageWith 5)))) 0))
+
+-- images bear LE's number, or the log's form is broken
+unfoldable pub imagesBear : Bool
+imagesBear =
+    both (there (imaged 1 (imageWith 5 ∷ []) (encode 5 (LE 1 [])))) (not (there (imaged 1 (imageWith 4 ∷ []) (encode 5 (LE 1 [])))))
+
+-- the record of a put may have a value, that of a delete has none
+unfoldable pub deleteBare : Bool
+deleteBare = both (carriesOk 4 (recs (20 ∷ []) ∷ [])) (not (carriesOk 5 (recs (20 ∷ []) ∷ [])))
+
 unfoldable pub facts : List Bool
 facts =
     entryMark ∷ keysStrict ∷ tailZero ∷ notTheOnly ∷ modifyLong ∷ leftmostZero ∷ countsWritten ∷ largestOfAll ∷ endEnds ∷ sourceBehind ∷ groupFull
-    ∷ beginChangesNone ∷ equalPasses ∷ []
+    ∷ beginChangesNone ∷ equalPasses ∷ savesLong ∷ splitsEven ∷ joinsBoth ∷ onlyLower ∷ imagesBear ∷ deleteBare ∷ []

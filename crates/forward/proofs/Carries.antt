@@ -1,16 +1,14 @@
 -- The open unit's next record, be the unit one that tidies or a put or delete. Assumes nothing.
 use Prim.Native.Nat.{ℕ, _+_, _≤_}
-use native.Mathlib.Omega.{arith}
-use mathlib.Core.Path.{_≡_, refl, sym, ap, _∙_, subst}
+use mathlib.Core.Path.{_≡_, refl, sym, ap, _∙_}
 use mathlib.Core.Bool.{Bool, true, false}
 use mathlib.Core.List.{List, [], _∷_}
 use mathlib.Core.Option.{Option, some, none}
-use lib.Dec.{leb}
 use lib.ListN.{length, take, drop}
 use Rattle.field.specs.Test.{need, given}
-use Rattle.field.specs.Bytes.{put, most4}
+use Rattle.field.specs.Bytes.{put}
 use Rattle.field.proofs.Test.{pick-true}
-use Rattle.log.specs.Record.{saves, Rec, sizes, encode}
+use Rattle.log.specs.Record.{saves, Rec, encode}
 use Rattle.log.specs.Log.{State, savesAt, atEnd}
 use Rattle.log.specs.Scan.{shown}
 use Rattle.log.specs.declared.scan.Walk.{Walk}
@@ -19,7 +17,7 @@ use Rattle.saving.specs.Rest.{Rest, refuses, lacks}
 use Rattle.resuming.specs.Lacking.{Unfinished}
 use Rattle.resuming.specs.Concluded.{Outcome, outcome, firstOf, concluded, restOn, concludedOn}
 use Rattle.resuming.proofs.Walked.{unfinished, rest-on}
-use Rattle.store.specs.Calls.{Went, stopped, went, andThen, logged, logLength, appendAll, conclude, lackedBy}
+use Rattle.store.specs.Calls.{Went, stopped, andThen, logged, appendAll, conclude, lackedBy}
 use Rattle.forward.specs.Appends.{appendOpen, appendNext, replyIn, workIn, logIn, Goes}
 use Rattle.forward.proofs.Stands.{Ends}
 

@@ -6,12 +6,11 @@ use mathlib.Core.Bool.{Bool, true, false}
 use mathlib.Core.List.{List, [], _∷_, _++_}
 use mathlib.Core.Option.{Option, some, none, Option·some-injective}
 use borrow.Author.Tests.{le-leb}
-use lib.Dec.{leb}
 use lib.ListN.{length, take}
-use Rattle.field.specs.Test.{pick, need, given, bind}
-use Rattle.field.specs.Bytes.{Bytes, put, most4}
+use Rattle.field.specs.Test.{need, given, bind}
+use Rattle.field.specs.Bytes.{Bytes, most4}
 use Rattle.field.proofs.Test.{pick-true, pick-false, need-true}
-use Rattle.log.specs.Record.{saves, Image, Rec, LG, LE, size, sizes, encode}
+use Rattle.log.specs.Record.{saves, Image, Rec, LG, LE, size, sizes}
 use Rattle.log.specs.Plan.{Step, close}
 use Rattle.log.specs.Log.{Open, State, imagesOf, going, noting, openedBy, after, Log, readLog, atEnd}
 use Rattle.log.specs.Valid.{Does, does-out, does-in, does-point, does-close}
@@ -28,7 +27,7 @@ use Rattle.saving.proofs.Resumes.{resumed-more}
 use Rattle.store.specs.Calls.{Went, stopped, went, andThen, logged, logLength, append, appendAll, conclude, restLong, lackedBy, finish, finishOpen}
 use Rattle.forward.specs.Appends.{appendFirst, appendOpen}
 use Rattle.forward.proofs.Grows.{append-grows}
-use Rattle.forward.proofs.Saves.{Concluded, First, first-concluded, length-more, lacks-some, save-lacks}
+use Rattle.forward.proofs.Saves.{First, first-concluded, length-more, lacks-some, save-lacks}
 
 -- what comes after one record
 abbrev pub onward : (s : State) (w l : List ℕ) → Went

@@ -1,13 +1,13 @@
 -- A record that is appended: what its tests have shown, and the log that is read afterwards. Assumes nothing.
-use Prim.Native.Nat.{ℕ, suc, _+_, _≤_}
+use Prim.Native.Nat.{ℕ, _+_, _≤_}
 use native.Mathlib.Omega.{arith}
 use mathlib.Core.Path.{_≡_, refl, sym, ap, _∙_, subst}
 use mathlib.Core.Bool.{Bool, true, false}
-use mathlib.Core.List.{List, [], _∷_}
+use mathlib.Core.List.{List, _∷_}
 use mathlib.Core.Option.{Option, some, none, Option·some-injective}
 use lib.ListN.{length}
 use borrow.Author.Tests.{leb-true}
-use Rattle.field.specs.Test.{need, given, bind}
+use Rattle.field.specs.Test.{need, given}
 use Rattle.field.specs.Bytes.{Bytes, put, most4}
 use Rattle.field.proofs.Test.{when-some, bind-some}
 use Rattle.field.proofs.Byte.{bytes-nil}

@@ -4,20 +4,20 @@ use native.Mathlib.Omega.{arith}
 use mathlib.Core.Path.{_≡_, refl, sym, ap, _∙_, subst}
 use mathlib.Core.Bool.{Bool, true, false}
 use mathlib.Core.List.{List, [], _∷_}
-use mathlib.Core.Option.{Option, some, none}
+use mathlib.Core.Option.{some}
 use lib.ListN.{length}
-use Rattle.field.specs.Test.{need, given}
+use Rattle.field.specs.Test.{given}
 use Rattle.field.specs.Bytes.{Bytes}
 use Rattle.field.proofs.Test.{pick-true, pick-false}
 use Rattle.log.specs.Record.{saves, Rec}
 use Rattle.log.specs.Plan.{Step}
-use Rattle.log.specs.Log.{Open, State, Log, readLog, atEnd}
+use Rattle.log.specs.Log.{Open, State, Log, atEnd}
 use Rattle.log.specs.Scan.{shown}
 use Rattle.log.specs.declared.scan.Walk.{Walk}
 use Rattle.log.proofs.Held.{done-some}
 use Rattle.log.proofs.Toward.{toward-next}
 use Rattle.unit.specs.Next.{apply}
-use Rattle.saving.specs.Rest.{Rest, refuses, lacks, restOf}
+use Rattle.saving.specs.Rest.{Rest, refuses, lacks}
 use Rattle.saving.proofs.Replies.{resumed-tells}
 use Rattle.resuming.proofs.Walked.{done-end}
 use Rattle.store.specs.Calls.{Went, stopped, went, andThen, appendAll, append, conclude, lackedBy, finishOpen}

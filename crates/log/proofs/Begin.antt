@@ -10,7 +10,7 @@ use borrow.Author.Tests.{eqb-true, ne-eqb, leb-true}
 use Rattle.field.specs.Test.{both, pick}
 use Rattle.field.specs.Bytes.{Bytes, most4}
 use Rattle.field.proofs.Test.{both-1, both-2, all-head, all-tail, pick-true, pick-false}
-use Rattle.page.specs.Page.{firstLeaf, lastLeaf, ascendRecords}
+use Rattle.page.specs.Page.{firstLeaf, lastLeaf}
 use Rattle.page.specs.Each.{Each}
 use Rattle.log.specs.Record.{Begin, saves, begin, lengthOf, LB, kindOf, carried, size}
 use Rattle.log.specs.Log.{within, onBases, onLeaves, compactOk, swapOk, moveOk, carriesOk, saveOk, typeOk, beginOk}

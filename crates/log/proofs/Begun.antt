@@ -11,17 +11,17 @@ use borrow.Author.Tests.{eq-eqb, ne-eqb, le-leb, lt-leb, not-true, not-false}
 use Rattle.field.specs.Test.{both, all, pick}
 use Rattle.field.specs.Bytes.{part, put, zeroes, allZero, starts, Bytes, le2, bytes2, bytes4, most4}
 use Rattle.field.proofs.Test.{pick-true, both-true, both-false, both-end}
-use Rattle.field.proofs.Number.{bytes2-le2, length-bytes2, le2-drop}
+use Rattle.field.proofs.Number.{bytes2-le2, length-bytes2}
 use Rattle.field.proofs.Part.{part-drop, length-part}
 use Rattle.field.proofs.Byte.{bytes-drop}
 use Rattle.field.proofs.Gather.{zero-cut, zero-pair}
 use Rattle.page.specs.Page.{joined}
-use Rattle.log.specs.Record.{Begin, saves, Rec, LB, begin, lengthOf, kindOf, carried, size, header, fields, body, previous, encode}
+use Rattle.log.specs.Record.{saves, LB, begin, lengthOf, kindOf, carried, size, header, fields, body, previous, encode}
 use Rattle.log.specs.Table.{kinds, kindAt}
 use Rattle.log.specs.Write.{unitHead}
-use Rattle.log.specs.Log.{onBases, onLeaves, differ, compactOk, swapOk, moveOk, carriesOk, saveOk, typeOk, beginOk, savesAt, readFields, readBegin}
+use Rattle.log.specs.Log.{onBases, onLeaves, differ, compactOk, swapOk, moveOk, saveOk, typeOk, beginOk, savesAt, readFields, readBegin}
 use Rattle.log.specs.Stand.{stands, spareZero, standsBegin, Whole}
-use Rattle.log.proofs.Record.{Sized, length-fields}
+use Rattle.log.proofs.Record.{length-fields}
 use Rattle.log.proofs.Begin.{Limits, typeOk-limits, beginOk-limits}
 use Rattle.log.proofs.Fields.{all-fail, length-readFields}
 use Rattle.log.proofs.Starts.{starts-nil, starts-cat, starts-part, starts-fields, starts-zeroes}

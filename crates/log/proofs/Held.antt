@@ -1,6 +1,5 @@
 -- What holds at each state of the pass: it is sound, and its open unit began where the numbers say. Assumes nothing.
-use Prim.Native.Nat.{ℕ, zero, suc, _+_, _-_, _*_, _≤_, _<_}
-use native.Mathlib.Nat.{not-suc-le-zero}
+use Prim.Native.Nat.{ℕ, zero, suc, _+_, _-_, _*_, _≤_}
 use native.Mathlib.Omega.{arith}
 use mathlib.Core.Path.{_≡_, refl, sym, ap, _∙_, subst}
 use mathlib.Core.Logic.{_⊎_, inl, inr, ⊎-elim}
@@ -11,8 +10,8 @@ use lib.ListN.{length, drop, getD, length-drop}
 use lib.Seq.{drop-drop}
 use lib.Dec.{eqb, leb}
 use borrow.Author.Tests.{eq-eqb, ne-eqb}
-use Rattle.field.specs.Test.{both, all, pick, given, when, bind, there}
-use Rattle.field.specs.Bytes.{Bytes, le4, most4}
+use Rattle.field.specs.Test.{both, pick, given, when, bind, there}
+use Rattle.field.specs.Bytes.{Bytes, le4}
 use Rattle.field.proofs.Test.{pick-true, pick-false, bind-some, when-some}
 use Rattle.field.proofs.Byte.{bytes-drop}
 use Rattle.log.specs.Record.{Check, Begin, saves, Image, Rec, LB, LO, LI, LM, LG, LE, begin, image, lengthOf, kindOf, carried, size, sizes}
@@ -20,11 +19,10 @@ use Rattle.log.specs.Plan.{Step, takeOut, bringIn, point, close, gather,
 use Rattle.log.specs.Log.{Open, State, first, going, noting, openedBy, unitBy, after, beginOk, savesAt, readBegin, taken, imagesOf, allBear, readImage, follows, imaged, expected, readRec}
 use Rattle.log.specs.Scan.{shown, lost, begun, stepped, imagesIn, imagesOn, saved, turned, Ready}
 use Rattle.log.specs.Stand.{standsBegin}
-use Rattle.log.specs.declared.scan.Walk.{Walk}
 use Rattle.log.proofs.Record.{size-least}
 use Rattle.log.proofs.Begin.{begin-saving}
 use Rattle.log.proofs.Plan.{Ending, last, more, saves-type}
-use Rattle.log.specs.Valid.{Small, Does, does-out, does-in, does-point, does-close, Logs, logs-image, logs-end, Follows, begins, goes, logs, Fits}
+use Rattle.log.specs.Valid.{Small, Does, does-out, does-in, does-point, does-close, logs-image, logs-end, Follows, goes, logs, Fits}
 use Rattle.log.proofs.Sound.{Awaits, awaits-todo, Imaged, no-image, an-image, Keeps, Sound, Waits, open-unit, open-save, waits-open, waits-save, sound-first, sound-after}
 use Rattle.log.proofs.Read.{ReadOff, readRec-facts}
 use Rattle.log.proofs.Turned.{Counted, open-reads, save-reads, shut-reads}

@@ -15,7 +15,6 @@ use Rattle.field.specs.Bytes.{part, put, starts, le2, le4, most4}
 use borrow.Rule.Slice.PartAt.{part-to-end}
 use Rattle.field.proofs.Test.{both-true, both-false, both-end, both-2, pick-true, pick-false, pick-either}
 use Rattle.field.proofs.Number.{le2-drop, le4-part, le4-drop}
-use Rattle.field.proofs.Part.{length-part}
 use Rattle.page.specs.Page.{lastLeaf, number, formed}
 use Rattle.log.specs.Record.{begin, image, lengthOf, Image, LG, LE, kindOf, carried, size, body, previous, encode}
 use Rattle.log.specs.Table.{kinds, kindAt}

@@ -4,7 +4,7 @@ use Prim.Native.Nat.{ℕ, zero, suc, _+_, _-_, _*_, _≤_}
 use native.Mathlib.Omega.{arith}
 use mathlib.Core.Path.{_≡_, refl, sym, ap, _∙_, subst}
 use mathlib.Core.Logic.{⊎-elim}
-use mathlib.Core.Bool.{true, false}
+use mathlib.Core.Bool.{false}
 use mathlib.Core.List.{List, [], _∷_}
 use mathlib.Core.Option.{Option, some, none, Option·some-injective, Option·none-ne-some}
 use lib.ListN.{length, drop, getD}
@@ -21,7 +21,7 @@ use Rattle.log.specs.Plan.{Step, takeOut, bringIn, point, close, plan}
 use Rattle.log.specs.Log.{Open, State, going, noting, openedBy, after, readBegin, taken, planned, plannedFirst, expected, readRec}
 use Rattle.log.specs.Scan.{latest, shown}
 use Rattle.log.specs.Source.{sourceAt, sourceRows, sourced}
-use Rattle.log.specs.Valid.{Moved, Does, does-out, does-in, does-point, does-close, Logs, logs-image, logs-end, Follows, goes, logs}
+use Rattle.log.specs.Valid.{Moved, Does, does-out, does-in, does-point, does-close, logs-image, logs-end, Follows, goes, logs}
 use Rattle.log.proofs.Sound.{Awaits, Source, awaits-source, awaits-moved}
 use Rattle.log.proofs.Begin.{begin-plain}
 use Rattle.log.proofs.Held.{Back, begin-read}

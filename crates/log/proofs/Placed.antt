@@ -6,19 +6,18 @@ use native.Mathlib.Omega.{arith}
 use mathlib.Core.Path.{_≡_, refl, sym, ap, _∙_}
 use mathlib.Core.Bool.{Bool, true, false, not, false≢true}
 use mathlib.Core.List.{List, [], _∷_, _++_, append-assoc}
-use lib.ListN.{length, drop, getD, length-append, length-drop, List·getD-eq-default}
+use lib.ListN.{length, drop, getD, length-drop, List·getD-eq-default}
 use lib.Seq.{getD-drop}
 use lib.Dec.{eqb, leb}
-use borrow.Author.Tests.{eq-eqb, ne-eqb, eqb-true, eqb-false, leb-true, lt-leb, not-true}
-use Rattle.field.specs.Test.{both, all, pick}
+use borrow.Author.Tests.{eq-eqb, ne-eqb, eqb-true, eqb-false, leb-true, not-true}
+use Rattle.field.specs.Test.{both, pick}
 use Rattle.field.specs.Bytes.{le2}
 use Rattle.field.proofs.Test.{all-head, all-tail, pick-true, pick-false, pick-either, both-1, both-2}
 use Rattle.field.proofs.Part.{split}
 use Rattle.field.proofs.Number.{le2-drop}
-use Rattle.log.specs.Record.{Begin, saves}
+use Rattle.log.specs.Record.{saves}
 use Rattle.log.specs.Plan.{Step, takeOut, bringIn, point, close, gather, removals, others, replacing, compactPlan, movePlan, swapPlan, plan}
 use Rattle.log.specs.Log.{listed, differ, compactOk, swapOk, moveOk, typeOk, beginOk, savesAt, readFields, readBegin}
-use Rattle.log.proofs.Begin.{Limits, beginOk-limits}
 use Rattle.log.proofs.Fields.{length-readFields, getD-readFields}
 
 -- the unit's end comes last, and wherever one looks past it
@@ -385,61 +384,3 @@ module _ (m : List ℕ) (u i : ℕ) (ok : beginOk (readBegin u m) ≡ true) (r :
   pub step-other! : savesAt m ≡ false → (p a d : ℕ) → p ≡ le2 m 20 → a ≡ le2 m 24 → d ≡ le2 m 40 → r ≡ getD (movePlan p a d ++ (close u ∷ [])) i (close u) → eqb (getD m 16 0) 1 ≡ false → (t ≡ 2 → ⊥)
       → r ≡ getD (plan (readBegin u m)) i (close u)
   step-other! v p a d pp pa pd e f g = step-move v p a d pp pa pd e (λ z. false≢true (sym f ∙ eq-eqb (getD m 16 0) 1 (sym q ∙ z))) g
-
--- ---- how many steps
-
-heads-length : (base c dest s : ℕ) → s ≤ 1 → length (heads base c dest s) ≡ 1 - s
-heads-length base c dest zero h = refl
-heads-length base c dest (suc zero) h = refl
-heads-length base c dest (suc (suc s)) h = absurd (omega arith)
-
-compact-length : (base dest u c : ℕ) (ps : List ℕ) → Free dest c ps → (s : ℕ) → s ≡ pick (eqb c dest) 1 0
-    → length (compactPlan base dest (c ∷ ps) ++ (close u ∷ [])) ≡ 3 * length (c ∷ ps) + 1 - 3 * s
-compact-length base dest u c ps f s e =
-    let h : s ≤ 1 = small base dest u c ps f s e 0 in
-    let l : length (drop s (c ∷ ps)) ≡ length (c ∷ ps) - s = length-drop s (c ∷ ps) in
-    let r : length (removals base ps) ≡ length ps = length-removals base ps in
-    let p : length (pairs dest (drop s (c ∷ ps))) ≡ 2 * length (drop s (c ∷ ps)) = length-pairs dest (drop s (c ∷ ps)) in
-    let k : length (heads base c dest s) ≡ 1 - s = heads-length base c dest s h in
-    ap length (shape base dest u c ps f s e 0) ∙ simp length-append (omega arith)
-
-list-length : (base dest u : ℕ) (l : List ℕ) → 1 ≤ length l → pick (eqb dest (getD l 0 0)) true (not (listed dest l)) ≡ true → differ l ≡ true → (s : ℕ) → s ≡ pick (eqb (getD l 0 0) dest) 1 0
-    → length (compactPlan base dest l ++ (close u ∷ [])) ≡ 3 * length l + 1 - 3 * s
-list-length base dest u [] h f g s e = absurd (not-suc-le-zero h)
-list-length base dest u (c ∷ ps) h f g s e = compact-length base dest u c ps (f, g) s e
-
-module _ (m : List ℕ) (u : ℕ) (ok : beginOk (readBegin u m) ≡ true) (v : savesAt m ≡ false) (t : ℕ) (q : t ≡ getD m 16 0) where
-  pub count-swap! : t ≡ 2 → 7 ≡ length (plan (readBegin u m))
-  unfolding plan readBegin pick swapPlan
-  count-swap! h = let n : eqb t 1 ≡ false = ne-eqb t 1 (λ z. omega arith) in rw (← q, n, eq-eqb t 2 h)
-
-  pub count-move! : t ≡ 3 → 4 ≡ length (plan (readBegin u m))
-  unfolding plan readBegin pick movePlan saves
-  count-move! h =
-      let n : eqb t 1 ≡ false = ne-eqb t 1 (λ z. omega arith) in
-      let k : eqb t 2 ≡ false = ne-eqb t 2 (λ z. omega arith) in
-      let j : leb 4 t ≡ false = lt-leb 4 t (omega arith) in
-      rw (← q, n, k, j)
-
-  one-type : (t ≡ 2 → ⊥) → (t ≡ 3 → ⊥) → t ≡ 1
-  one-type f g =
-      split t 1
-      (λ h. absurd (g (q ∙ is-move m u ok v (λ z. omega arith) (λ z. omega arith) .type)))
-      (λ h. split 1 t (λ k. absurd (g (q ∙ is-move m u ok v (λ z. omega arith) (λ z. f (q ∙ z)) .type))) (λ k. omega arith))
-
-  pub count-compact! : (c d k s : ℕ) → c ≡ le2 m 24 → d ≡ le2 m 40 → k ≡ getD m 19 0 → s ≡ pick (eqb c d) 1 0 → (t ≡ 2 → ⊥) → (t ≡ 3 → ⊥)
-      → 3 * k + 1 - 3 * s ≡ length (plan (readBegin u m))
-  unfolding plan readBegin pick
-  count-compact! c d k s pc pd pk es f g =
-      let h : t ≡ 1 = one-type f g in
-      let x : Compacts m = is-compact m u ok (sym q ∙ h) in
-      let n : length (readFields (getD m 19 0) (drop 24 m)) ≡ k = length-readFields (getD m 19 0) (drop 24 m) ∙ sym pk in
-      let y : getD (readFields (getD m 19 0) (drop 24 m)) 0 0 ≡ c = leaf-at m 0 (omega (arith, x .few)) ∙ sym pc in
-      let z : s ≡ pick (eqb (getD (readFields (getD m 19 0) (drop 24 m)) 0 0) (le2 m 40)) 1 0 = rw (y, ← pd) es in
-      let e : length (compactPlan (getD (readFields (getD m 18 0) (drop 20 m)) 0 0) (le2 m 40) (readFields (getD m 19 0) (drop 24 m)) ++ (close u ∷ [])) ≡ 3 * k + 1 - 3 * s =
-      list-length _ (le2 m 40) u (readFields (getD m 19 0) (drop 24 m)) (omega (arith, n, pk, x .few)) (x .free) (x .differs) s z ∙ rw n in
-      sym (rw (← q, eq-eqb t 1 h) e)
-
-  -- a compact has leaves
-  pub count-room : (t ≡ 2 → ⊥) → (t ≡ 3 → ⊥) → 2 ≤ getD m 19 0
-  count-room f g = is-compact m u ok (sym q ∙ one-type f g) .few

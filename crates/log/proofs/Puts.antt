@@ -6,11 +6,8 @@ use native.Mathlib.Omega.{arith}
 use mathlib.Core.Path.{_≡_, refl, sym, ap, _∙_}
 use mathlib.Core.Bool.{Bool, true, false}
 use mathlib.Core.List.{List, [], _∷_, _++_, append-nil, append-assoc}
-use mathlib.Core.Option.{Option, some, none}
-use lib.ListN.{length, take, drop, getD, take-append-drop, length-append}
-use lib.Dec.{eqb}
+use lib.ListN.{length, getD, take-append-drop, length-append}
 use lib.Seq.{take-all}
-use borrow.Author.Tests.{eq-eqb, ne-eqb}
 use Rattle.field.specs.Test.{pick}
 use Rattle.field.specs.Bytes.{put, bytes2, bytes4, zeroes}
 use Rattle.field.proofs.Part.{put-next, length-put}

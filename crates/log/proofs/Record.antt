@@ -12,7 +12,7 @@ use Rattle.field.proofs.Byte.{bytes-nil, bytes-cons, bytes-append, bytes-zeroes
 use Rattle.page.specs.Page.{joined}
 use Rattle.page.specs.Each.{Each, Long}
 use Rattle.page.proofs.Rows.{length-joined, bytes-joined}
-use Rattle.log.specs.Record.{Kind, check, lengthOf, Check, Image, Rec, LB, LO, LI, LM, LG, LE, kindOf, carried, size, header, fields, lkBytes, encodeCheck, newKey, body, previous, encode}
+use Rattle.log.specs.Record.{Kind, check, lengthOf, Check, Rec, LB, LO, LI, LM, LG, LE, kindOf, carried, size, header, fields, lkBytes, encodeCheck, newKey, body, previous, encode}
 
 -- ---- lengths
 

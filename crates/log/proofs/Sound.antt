@@ -22,7 +22,7 @@ use Rattle.log.proofs.Record.{Narrow}
 use Rattle.log.proofs.State.{Every}
 use Rattle.log.proofs.Begin.{beginOk-unit}
 use Rattle.log.proofs.Plan.{Works, works-out, works-in, works-point, Ending, Fed, ending-rest, fed-rest, plan-ending, plan-fed, plan-saves, saves-type}
-use Rattle.log.specs.Valid.{Moved, Does, does-out, does-in, does-point, does-close, Logs, logs-image, logs-end, Follows, begins, goes, logs, Fits, Valid, Small, Good, Filed}
+use Rattle.log.specs.Valid.{Moved, Does, does-out, does-in, does-point, does-close, logs-image, logs-end, Follows, begins, goes, logs, Fits, Valid, Small, Good, Filed}
 use Rattle.log.proofs.Valid.{does-narrow}
 use Rattle.log.proofs.Filed.{image-filed}
 

@@ -1,10 +1,9 @@
 -- The ways through the test of one record, which writes the record that must stand there and compares. Assumes nothing.
-use Prim.Native.Nat.{ℕ, _+_, _-_, _*_, _≤_, _<_}
-use native.Mathlib.Omega.{arith}
+use Prim.Native.Nat.{ℕ, _+_, _-_, _≤_, _<_}
 use mathlib.Core.Path.{_≡_, refl, sym, ap, _∙_}
 use mathlib.Core.Bool.{Bool, true, false}
-use mathlib.Core.List.{List, [], _∷_, _++_}
-use lib.ListN.{length, take, drop, getD, length-drop}
+use mathlib.Core.List.{List, [], _∷_}
+use lib.ListN.{length, take, drop, length-drop}
 use lib.Seq.{take-at}
 use lib.Dec.{leb}
 use borrow.Author.Tests.{leb-true, le-leb, lt-leb}
@@ -14,7 +13,7 @@ use Rattle.field.proofs.Test.{all-head, all-tail, both-end, both-true, both-fal
 use Rattle.field.proofs.Number.{le4-drop}
 use Rattle.field.proofs.Same.{starts-eq}
 use Rattle.page.specs.Each.{Each}
-use Rattle.log.specs.Record.{Rec, LI, LM, LE, into, lengthOf, kindOf, carried, size, header, encode}
+use Rattle.log.specs.Record.{Rec, LI, LM, LE, lengthOf, kindOf, carried, size, header, encode}
 use Rattle.log.specs.Write.{paged, inBytes}
 use Rattle.log.specs.Table.{kinds, kindAt}
 use Rattle.log.specs.Stand.{stands, standsIn, standsModify}

@@ -1,17 +1,16 @@
 -- A list that begins with another: with one list and then another, with a part of itself, with zeros, with listed pages. Assumes nothing.
-use Prim.Native.Nat.{ℕ, zero, suc, _+_, _-_, _*_, _≤_, _<_}
-use native.Mathlib.Nat.{add-zero, mul-zero, sub-zero}
+use Prim.Native.Nat.{ℕ, zero, suc, _+_, _-_, _*_, _≤_}
 use native.Mathlib.Omega.{arith}
 use mathlib.Core.Path.{_≡_, refl, sym, ap, _∙_}
-use mathlib.Core.Bool.{Bool, true, false}
+use mathlib.Core.Bool.{true}
 use mathlib.Core.List.{List, [], _∷_, _++_}
-use lib.ListN.{length, take, drop, getD, length-append, length-take, length-drop}
-use lib.Seq.{take-add, length-take-le, drop-drop, drop-cons}
+use lib.ListN.{length, take, drop, length-append, length-drop}
+use lib.Seq.{take-add, length-take-le}
 use lib.Dec.{eqb}
-use borrow.Author.Tests.{eq-eqb, ne-eqb}
+use borrow.Author.Tests.{ne-eqb}
 use Rattle.field.specs.Test.{both}
 use Rattle.field.specs.Bytes.{part, zeroes, allZero, same, starts, Bytes, le2, bytes2}
-use Rattle.field.proofs.Test.{both-true, both-end, both-assoc}
+use Rattle.field.proofs.Test.{both-true, both-assoc}
 use Rattle.field.proofs.Part.{split, length-part, part-drop}
 use Rattle.field.proofs.Number.{bytes2-le2, length-bytes2}
 use Rattle.field.proofs.Same.{same-refl}

@@ -5,7 +5,7 @@ use native.Mathlib.Omega.{arith}
 use mathlib.Core.Path.{_≡_, refl}
 use mathlib.Core.List.{List, [], _∷_}
 use lib.ListN.{length, getD}
-use Rattle.log.specs.Record.{letter, Kind, check, begin, out, into, modify, end, image, lengthOf}
+use Rattle.log.specs.Record.{letter, Kind, check, lengthOf}
 use Rattle.log.specs.Table.{kinds, kindAt, tabled}
 
 -- a kind's four places in a table of kinds

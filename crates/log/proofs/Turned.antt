@@ -1,29 +1,24 @@
 -- A turn of the pass reads the record that `readRec` reads: the numbers after it are those of the state after it. Assumes nothing.
-use Prim.Native.Nat.{ℕ, zero, suc, _+_, _-_, _*_, _≤_, _<_}
-use native.Mathlib.Nat.{not-suc-le-zero}
-use native.Mathlib.Numerals.{add-one}
+use Prim.Native.Nat.{ℕ, suc, _+_, _-_, _*_, _≤_}
 use native.Mathlib.Omega.{arith}
-use mathlib.Core.Path.{_≡_, refl, sym, ap, _∙_, subst}
-use mathlib.Core.Logic.{_⊎_, inl, inr, ⊎-elim}
+use mathlib.Core.Path.{_≡_, refl, sym, ap, _∙_}
 use mathlib.Core.Bool.{Bool, true, false}
-use mathlib.Core.List.{List, [], _∷_, _++_}
+use mathlib.Core.List.{List, [], _∷_}
 use mathlib.Core.Option.{Option, some, none}
 use lib.ListN.{length, drop, getD}
-use lib.Seq.{drop-cons}
 use lib.Dec.{eqb, leb}
-use borrow.Author.Tests.{eq-eqb, ne-eqb, le-leb, lt-leb}
+use borrow.Author.Tests.{ne-eqb, le-leb, lt-leb}
 use Rattle.field.specs.Test.{both, all, pick, given, when, bind, there}
-use Rattle.field.specs.Bytes.{part, starts, le2, le4, most4}
+use Rattle.field.specs.Bytes.{part, le2, le4}
 use Rattle.field.proofs.Test.{pick-true, pick-false}
 use Rattle.field.proofs.Part.{split}
 use Rattle.page.specs.Page.{rowsOf, keyOf, ascendRecords}
 use Rattle.page.proofs.Rows.{length-rowsOf}
 use Rattle.log.specs.Record.{Begin, saves, Image, Rec, LB, LO, LI, LM, LG, LE, out, into, modify, image, lengthOf, kindOf, carried, outs, size, sizes}
-use Rattle.log.specs.Plan.{Step, takeOut, bringIn, point, close, plan}
+use Rattle.log.specs.Plan.{Step, takeOut, bringIn, point, close}
 use Rattle.log.specs.Log.{Open, State, largest, largestMoved, lkEnded, going, noting, openedBy, lkBy, unitBy, after, beginOk, savesAt, readBegin, taken, planned, plannedFirst, imagesOf, allBear, readImage, follows, imaged, expected, readRec}
-use Rattle.log.specs.Stand.{stands, standsIn, standsModify, standsOut, standsBegin, standsImage, standsLast}
+use Rattle.log.specs.Stand.{stands, standsModify, standsOut, standsBegin, standsImage, standsLast}
 use Rattle.log.specs.Scan.{latest, keyIn, shown, lost, begun, went, ended, stepped, saved}
-use Rattle.log.specs.declared.scan.Walk.{Walk}
 use Rattle.log.proofs.Stand.{stands-in, stands-le4, both-none}
 
 -- ---- the largest key moved, record by record

@@ -1,6 +1,5 @@
 -- The ways through the tests of a begin record's type, for `search`. Assumes nothing.
-use Prim.Native.Nat.{ℕ, _+_, _-_, _*_, _≤_, _<_}
-use native.Mathlib.Nat.{add-zero}
+use Prim.Native.Nat.{ℕ, _-_, _≤_, _<_}
 use native.Mathlib.Omega.{arith}
 use mathlib.Core.Path.{_≡_, refl, sym, ap, _∙_}
 use mathlib.Core.Bool.{Bool, true, false, not}
@@ -15,7 +14,7 @@ use Rattle.field.proofs.Test.{both-end, both-true, both-false, pick-true, pick-
 use Rattle.field.proofs.Number.{le2-drop}
 use Rattle.field.proofs.Part.{part-part, length-part}
 use Rattle.page.specs.Page.{rowsOf, ascend, ascendRecords}
-use Rattle.log.specs.Record.{Begin, saves}
+use Rattle.log.specs.Record.{saves}
 use Rattle.log.specs.Log.{onLeaves, listed, compactOk, swapOk, moveOk, carriesOk, saveOk, typeOk, savesAt, readFields, readBegin}
 use Rattle.log.proofs.Fields.{all-fail, length-readFields, getD-readFields}
 

@@ -1,17 +1,14 @@
 -- Laws of records that may come next, of chains of them, and of logs made of one. Assumes nothing.
-use Prim.Native.Nat.{ℕ, zero, suc, _+_, _≤_}
-use mathlib.Core.Path.{refl, _≡_}
-use mathlib.Core.Bool.{Bool, true, false}
+use Prim.Native.Nat.{ℕ, zero, suc, _+_}
+use mathlib.Core.Path.{refl}
 use mathlib.Core.List.{List, [], _∷_, _++_}
-use mathlib.Core.Option.{Option, some, none}
-use lib.ListN.{length, take}
-use Rattle.field.specs.Bytes.{Bytes, most4}
-use Rattle.page.specs.Page.{ascendRecords}
-use Rattle.page.specs.Each.{Each, Long}
-use Rattle.log.specs.Record.{Check, Begin, saves, Image, Rec, LB, LO, LI, LM, LG, LE, kindOf, carried}
-use Rattle.log.specs.Plan.{Step, takeOut, bringIn, point, close}
-use Rattle.log.specs.Log.{Open, State, first, after, afterAll, allBear, Log}
-use Rattle.log.specs.Valid.{Moved, Does, does-out, does-in, does-point, does-close, Logs, logs-image, logs-end, Bears, Follows, begins, goes, logs, Fits, Valid, nil, cons, Small, Good}
+use mathlib.Core.Option.{Option}
+use lib.ListN.{take}
+use Rattle.page.specs.Each.{Each}
+use Rattle.log.specs.Record.{Rec, kindOf, carried}
+use Rattle.log.specs.Plan.{Step}
+use Rattle.log.specs.Log.{Open, State, after, afterAll, allBear}
+use Rattle.log.specs.Valid.{Does, does-out, does-in, does-point, does-close, logs-image, logs-end, Bears, Follows, begins, goes, logs, Valid, nil, cons}
 use Rattle.log.proofs.Record.{Sized, Narrow}
 use Rattle.log.proofs.State.{Every}
 use Rattle.log.proofs.Begin.{beginOk-narrow}

@@ -1,20 +1,20 @@
 -- The ways through a turn of the pass: a record that is not there, and one that is, with its bytes. Assumes nothing.
 use Prim.Native.Nat.{ℕ, _+_, _-_, _*_, _≤_, _<_}
 use native.Mathlib.Omega.{arith}
-use mathlib.Core.Path.{_≡_, refl, sym, ap, _∙_}
+use mathlib.Core.Path.{_≡_, sym, _∙_}
 use mathlib.Core.Bool.{Bool, true, false, not}
-use mathlib.Core.List.{List, [], _∷_}
+use mathlib.Core.List.{List, []}
 use lib.ListN.{length, take, drop, getD}
 use lib.Seq.{getD-drop}
 use borrow.Rule.Slice.PartAt.{part-to-end}
 use lib.Dec.{eqb, leb}
-use borrow.Author.Tests.{leb-true, lt-leb, le-leb, not-true, not-false}
-use Rattle.field.specs.Test.{both, all, pick}
-use Rattle.field.specs.Bytes.{starts, le2, le4, most4}
+use borrow.Author.Tests.{leb-true, lt-leb, not-true, not-false}
+use Rattle.field.specs.Test.{all, pick}
+use Rattle.field.specs.Bytes.{le2, le4, most4}
 use Rattle.field.proofs.Test.{all-head, all-tail, both-1, both-2, both-false, pick-true, pick-false}
-use Rattle.page.specs.Page.{rowsOf, ascend, ascendRecords}
+use Rattle.page.specs.Page.{rowsOf, ascend}
 use Rattle.page.proofs.Rows.{length-rowsOf}
-use Rattle.log.specs.Record.{Begin, Image, Rec, LB, LO, LM, LE, begin, into, lengthOf, kindOf, carried, size, encode}
+use Rattle.log.specs.Record.{Image, Rec, LB, LO, LM, LE, begin, lengthOf, kindOf, carried, size}
 use Rattle.log.specs.Plan.{Step, takeOut, bringIn, point, close, plan}
 use Rattle.log.specs.Log.{beginOk, savesAt, readBegin}
 use Rattle.log.specs.Stand.{stands, standsIn, standsModify, standsOut, standsBegin, standsImage, standsLast}

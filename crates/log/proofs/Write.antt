@@ -20,7 +20,7 @@ use Rattle.field.proofs.Same.{starts-append}
 use Rattle.page.specs.Page.{joined, firstBase, lastBase, firstLeaf, lastLeaf}
 use Rattle.page.specs.Each.{Each, Long}
 use Rattle.page.proofs.Rows.{rowsOf-joined}
-use Rattle.log.specs.Record.{image, lengthOf, kindOf, carried, Check, Begin, saves, Image, Rec, LB, LO, LM, LG, LE, size, sizes, header, fields, lkBytes, encodeCheck, newKey, body, encode, encodeAll}
+use Rattle.log.specs.Record.{image, lengthOf, kindOf, Check, Begin, saves, Image, Rec, LB, LO, LM, LG, LE, size, sizes, header, fields, lkBytes, encodeCheck, newKey, body, encode, encodeAll}
 use Rattle.log.specs.Plan.{Step}
 use Rattle.log.specs.Log.{Open, State, first, after, within, beginOk, readFields, savesAt, readBegin, planned, plannedFirst, imagesOf, allBear, readImage, follows, imaged, expected, readRec, readRecs, readCheck, Log, readLog, encodeLog}
 use Rattle.log.specs.Valid.{Does, does-out, does-in, does-point, does-close, Logs, logs-image, logs-end, Bears, Follows, begins, goes, logs, Fits, Valid, Small, Good}

@@ -4,7 +4,7 @@ use Prim.Native.Nat.{ℕ, zero, suc, _+_, _-_, _*_, _≤_, _<_}
 use mathlib.Core.Path.{_≡_}
 use mathlib.Core.Bool.{Bool, true, false, not}
 use mathlib.Core.List.{List, [], _∷_}
-use mathlib.Core.Option.{Option, some, none}
+use mathlib.Core.Option.{Option, none}
 use lib.ListN.{length, drop, getD}
 use lib.Dec.{eqb}
 use Rattle.field.specs.Test.{both, pick, given, there}
@@ -12,7 +12,7 @@ use Rattle.field.specs.Bytes.{allZero, le2, le4}
 use Rattle.page.specs.Page.{rowsOf}
 use Rattle.log.specs.Record.{typeAt, Begin, Image, Rec, LB, LO, LI, LM, LG, LE, begin, out, into, modify, image, end, lengthOf, outs, size, sizes}
 use Rattle.log.specs.Plan.{Step, takeOut, bringIn, point, close, plan}
-use Rattle.log.specs.Log.{Open, State, largest, largestMoved, beginOk, savesAt, readBegin, readImage, readLog, atEnd, lastForced, first, readCheck}
+use Rattle.log.specs.Log.{State, largest, largestMoved, beginOk, savesAt, readBegin, readImage, readLog, atEnd, lastForced, first, readCheck}
 use Rattle.log.specs.Stand.{stands, standsIn, standsModify, standsOut, standsBegin, standsImage, standsLast}
 use Rattle.field.specs.declared.LogNo.{LogNo}
 use Rattle.field.specs.declared.UnitNo.{UnitNo}

@@ -1,12 +1,11 @@
 -- The tests of one record, as one Bool each: what `readRec` asks of the record that must come next. Assumes nothing.
 use Prim.Native.Nat.{ℕ, _+_, _-_, _*_, _≤_}
 use mathlib.Core.Path.{_≡_}
-use mathlib.Core.Bool.{Bool, true, false}
+use mathlib.Core.Bool.{Bool, true}
 use mathlib.Core.List.{List, [], _∷_}
-use mathlib.Core.Option.{Option, some, none}
 use lib.ListN.{length, drop, getD}
 use lib.Dec.{leb}
-use Rattle.field.specs.Test.{both, all, given}
+use Rattle.field.specs.Test.{both, all}
 use Rattle.field.specs.Bytes.{part, allZero, starts, le2, le4, most4}
 use Rattle.page.specs.Page.{rowsOf, ascendRecords}
 use Rattle.log.specs.Record.{Begin, Image, Rec, LB, LO, LM, LG, LE, begin, into, baseCountAt, leafCountAt, basesAt, leavesAt, destAt, zeroAt, lengthOf, size, encode}

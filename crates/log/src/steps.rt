@@ -205,23 +205,3 @@ pub fn step_at(m: &[u8], unit: UnitNo, i: usize) -> Planned
     }
     other_step(m, unit, i)
 }
-
-// How many steps a unit has after its LB: of k leaves, 3 k - 2 in place and 3 k + 1 otherwise; a swap 7, a move 4.
-pub fn step_count(m: &[u8], unit: UnitNo) -> usize
-    requires { ⌜ (begin .fixed ≤ length (now m)) × (beginOk (readBegin (unit .0) (now m)) ≡ true) × (savesAt (now m) ≡ false) ⌝ }
-    ensures { λ r. ⌜ r ≡ length (plan (readBegin (unit .0) (now (m .entry)))) ⌝ }
-{
-    let kind = opening::byte_at(m, opening::TYPE_AT);
-    if kind == 2 {
-        return 7;
-    }
-    if kind == 3 {
-        return 4;
-    }
-    let leaves = opening::byte_at(m, opening::LEAF_COUNT_AT);
-    let skip = skipped(
-        PageNo(field::get2(m, opening::LEAVES_AT)),
-        PageNo(field::get2(m, opening::DEST_AT)),
-    );
-    3 * leaves + 1 - 3 * skip
-}

@@ -1,12 +1,10 @@
 -- Document 02, no. 1, "Saving and deleting setups": the pages that a put or a delete changes, as they will be, worked out from the 64 pages
 -- ps of a well-formed tree. A page is given by its rows; its bytes bear the number that it is told. Assumes nothing.
 use Prim.Native.Nat.{ℕ, _+_}
-use mathlib.Core.Bool.{Bool, true, false}
 use mathlib.Core.List.{List, [], _∷_, _++_}
-use mathlib.Core.Option.{Option, some, none}
 use lib.ListN.{length, take, drop, getD}
 use lib.Dec.{eqb, leb, ltb}
-use Rattle.field.specs.Test.{both, pick, need, given, there}
+use Rattle.field.specs.Test.{both, pick, need, there}
 use Rattle.field.specs.Bytes.{zeroes}
 use Rattle.page.specs.Page.{root, base, leaf, empty, firstBase, lastBase, lastLeaf, keyOf, toPage, entry, spare, entries, records, made}
 use Rattle.tree.specs.Tree.{under, rootEntries, lower}

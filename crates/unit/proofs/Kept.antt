@@ -18,7 +18,7 @@ use Rattle.page.proofs.Pages.{length-page, formed-page, formed-pages}
 use Rattle.log.specs.Record.{Rec}
 use Rattle.log.specs.Plan.{Step}
 use Rattle.log.specs.Log.{Open, State, first, after, afterAll, listed, Log}
-use Rattle.log.specs.Valid.{Does, does-out, does-in, does-point, does-close, Logs, logs-image, logs-end, Follows, begins, goes, logs, Bears, Fits, Valid, nil, cons, Good}
+use Rattle.log.specs.Valid.{Does, does-out, does-in, does-point, does-close, logs-image, logs-end, Follows, begins, goes, logs, Bears, Fits, Valid, nil, cons, Good}
 use Rattle.log.proofs.Sound.{Sound, Waits, Awaits, waits-open, awaits-moved, sound-first, sound-after}
 use Rattle.tree.specs.Walk.{InForm}
 use Rattle.unit.specs.Next.{targets, change, changeAgain, apply, repeat, repeatAll}

@@ -18,7 +18,7 @@ use Rattle.log.specs.Record.{Begin, saves, Rec, LB, LO, LI, LM, LG, LE}
 use Rattle.log.specs.Plan.{Step, takeOut, bringIn, point, close, gather, removals, others, replacing, compactPlan, movePlan, swapPlan, plan}
 use Rattle.log.specs.Log.{Open, State, first, going, noting, openedBy, after, afterAll, within, onBases, onLeaves, compactOk, swapOk, moveOk, saveOk, typeOk, beginOk, Log, atEnd, imagesOf}
 use Rattle.log.proofs.Begin.{within-head, within-tail}
-use Rattle.log.specs.Valid.{Does, does-out, does-in, does-point, does-close, Logs, logs-image, logs-end, Follows, begins, goes, logs, Valid, nil, cons, Good, Filed}
+use Rattle.log.specs.Valid.{Does, does-out, does-in, does-point, does-close, logs-image, logs-end, Follows, begins, goes, logs, Valid, nil, cons, Good, Filed}
 use Rattle.log.proofs.State.{Every}
 use Rattle.log.proofs.Filed.{image-filed}
 

@@ -1,10 +1,9 @@
 -- Document 01, "Steps": the record that a planned step appends, what a record does to the pages, forward and repeated alike, and the
 -- room that steps need. Assumes nothing.
-use Prim.Native.Nat.{ℕ, _+_, _-_}
-use mathlib.Core.Bool.{Bool, true, false, not}
+use Prim.Native.Nat.{ℕ, _+_}
+use mathlib.Core.Bool.{Bool, true, not}
 use mathlib.Core.List.{List, [], _∷_}
 use mathlib.Core.Option.{Option, some, none}
-use lib.ListN.{length}
 use lib.Dec.{eqb, leb}
 use Rattle.field.specs.Test.{both, pick, when, bind}
 use Rattle.page.specs.Page.{keyOf, toPage, count, number, entries, records, isLeaf}

@@ -1,5 +1,4 @@
 -- `log::opening::saves` meets its contract. Assumes nothing.
-use mathlib.Core.Path.{_≡_}
 use Rattle.log.specs.Log.{savesAt}
 use borrow.Author.Needs.{needs}
 use Rattle.log.proofs.opening.saves.Statement.{statement}

@@ -1,7 +1,6 @@
 -- `log::opening::type_ok` meets its contract: each test that fails ends it. Assumes nothing.
 use native.Mathlib.Omega.{arith}
 use Rattle.log.proofs.Typed.{type-compact!, type-swap!, type-move!, type-none!, type-save!, other-saves}
-use borrow.Author.Needs.{needs}
 use Rattle.log.proofs.opening.type_ok.Statement.{statement}
 use Rattle.log.proofs.opening.type_ok.Tie as tie
 

@@ -1,5 +1,5 @@
 -- `log::reading::carried` meets its contract. Assumes nothing.
-use mathlib.Core.Path.{_≡_, sym, _∙_}
+use mathlib.Core.Path.{sym, _∙_}
 use Rattle.field.proofs.Test.{pick-true, pick-false}
 use borrow.Author.Needs.{needs}
 use Rattle.log.proofs.reading.carried.Statement.{statement}

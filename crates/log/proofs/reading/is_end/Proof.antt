@@ -2,7 +2,6 @@
 use Prim.Native.Nat.{_-_, _≤_}
 use native.Mathlib.Omega.{arith}
 use mathlib.Core.List.{[]}
-use lib.ListN.{length}
 use mathlib.Core.Path.{_∙_}
 use Rattle.log.specs.Record.{lengthOf}
 use Rattle.log.specs.Table.{kinds, kindAt}

@@ -1,7 +1,6 @@
 -- `log::reading::is_image` meets its contract: each test that fails ends it. Assumes nothing.
 use Prim.Native.Nat.{_≤_}
 use native.Mathlib.Omega.{arith}
-use mathlib.Core.Path.{_∙_}
 use Rattle.log.specs.Record.{lengthOf}
 use Rattle.log.specs.Table.{kinds, kindAt}
 use Rattle.log.proofs.Images.{image-short, image-low, image-high, image-form, image-rest}

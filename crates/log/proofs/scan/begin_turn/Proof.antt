@@ -1,8 +1,6 @@
 -- `log::scan::begin_turn` meets its contract. Assumes nothing.
-use Prim.Native.Nat.{_+_, _<_}
+use Prim.Native.Nat.{_<_}
 use native.Mathlib.Omega.{arith}
-use mathlib.Core.Path.{_≡_}
-use Rattle.log.specs.Record.{lengthOf}
 use Rattle.log.proofs.Begun.{one-most}
 use Rattle.log.proofs.Signs.{begin-room-fixed}
 use Rattle.log.proofs.Ways.{lost-pick, on-pick, begin-room, begin-last}

@@ -1,8 +1,8 @@
 -- `log::scan::last_turn` meets its contract. Assumes nothing.
-use Prim.Native.Nat.{ℕ, _+_, _-_, _≤_, _<_}
+use Prim.Native.Nat.{ℕ, _+_, _-_}
 use native.Mathlib.Omega.{arith}
-use mathlib.Core.Path.{_≡_, refl, sym, ap, _∙_}
-use lib.ListN.{length, length-drop}
+use mathlib.Core.Path.{_≡_, ap}
+use lib.ListN.{length-drop}
 use borrow.Rule.Slice.PartAt.{part-to-end}
 use Rattle.log.specs.Record.{lengthOf}
 use Rattle.log.specs.Table.{kinds, kindAt}

@@ -1,8 +1,7 @@
 -- `log::scan::save_turn` meets its contract. Assumes nothing.
-use Prim.Native.Nat.{_+_}
 use native.Mathlib.Omega.{arith}
-use mathlib.Core.Path.{_≡_, sym, _∙_}
-use lib.ListN.{drop, getD, length-drop}
+use mathlib.Core.Path.{sym, _∙_}
+use lib.ListN.{length-drop}
 use lib.Seq.{getD-drop}
 use Rattle.log.specs.Record.{lengthOf}
 use Rattle.log.specs.Table.{kinds, kindAt}

@@ -1,5 +1,4 @@
 -- `log::writing::put_image` meets its contract. Assumes nothing.
-use native.Mathlib.Omega.{arith}
 use mathlib.Core.Path.{_∙_}
 use Rattle.log.specs.Record.{lengthOf}
 use Rattle.log.specs.Table.{kinds, kindAt}

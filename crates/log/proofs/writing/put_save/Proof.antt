@@ -1,5 +1,4 @@
 -- `log::writing::put_save` meets its contract. Assumes nothing.
-use native.Mathlib.Omega.{arith}
 use Rattle.log.specs.Record.{lengthOf}
 use Rattle.log.specs.Table.{kinds, kindAt}
 use Rattle.log.proofs.Puts.{save-written! }

@@ -1,8 +1,8 @@
 -- `unit::again::save_again` meets its contract: an LG, or the LE. Assumes nothing.
-use Prim.Native.Nat.{ℕ, _+_, _*_, _≤_}
+use Prim.Native.Nat.{ℕ, _+_}
 use native.Mathlib.Omega.{arith}
-use mathlib.Core.Path.{_≡_, ap, sym, _∙_}
-use lib.ListN.{length, length-drop}
+use mathlib.Core.Path.{ap, sym, _∙_}
+use lib.ListN.{length-drop}
 use borrow.Rule.Slice.PartAt.{part-to-end}
 use Rattle.log.specs.Record.{lengthOf}
 use Rattle.log.specs.Table.{kinds, kindAt}

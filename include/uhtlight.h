@@ -62,7 +62,8 @@
  *   a put              5 records and 892 bytes: a leaf splits, or there was no leaf; else 3 records and 348 bytes
  *   a delete           6 records and 1,164 bytes: the first base page is emptied; 3 and 348 where its leaf keeps a record
  *   recovery           25 records appended
- *   stack, in bytes    build 1,152; recover 1,024; begin, step and list 768; range_next 256; the others 512
+ *   stack, in bytes    recover 1,600; step 1,472; build 1,152; begin_put and begin_delete 896; begin_compact, begin_order and list 768;
+ *                      range_next 256; the others 512
  *
  * The stack is what a call takes with its arguments, its answer and the return address. It is measured on x86-64 by tests/stack.c, which fails
  * where a call takes more; docs/PERFORMANCE.md has the figures.

@@ -78,12 +78,7 @@ pub extern "C" fn uhtlight_begin_order(n: &mut Numbers, work: &[u8], log: &mut [
 
 // A put of this record is begun: it replaces the one with its key, or is added.
 #[no_mangle]
-pub extern "C" fn uhtlight_begin_put(
-    n: &mut Numbers,
-    work: &[u8],
-    log: &mut [u8],
-    r: &[u8],
-) -> u8
+pub extern "C" fn uhtlight_begin_put(n: &mut Numbers, work: &[u8], log: &mut [u8], r: &[u8]) -> u8
     ensures begun { λ x. ⌜ left x [] (lent (now (n .exit) .used) (now (n .exit) .forced) (now (work .entry)) [] (now (log .exit)) (now (r .entry)))
         ≡ beginPut (lent (now (n .entry) .used) (now (n .entry) .forced) (now (work .entry)) [] (now (log .entry)) (now (r .entry))) ⌝ }
 {

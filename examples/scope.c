@@ -2,9 +2,9 @@
  *
  *   scope FILE [WRITES]
  *
- * Where FILE is missing, a store of sixty records is built first. Otherwise the scope wakes: it recovers what is in FILE. Then it finds one record,
- * lists all, tidies three units with force and flush, and makes a checkpoint. With WRITES the supply is cut after so many writes to FILE:
- * run it again, and see that nothing is lost.
+ * Where FILE is missing, a store of sixty records is built first. Otherwise the scope wakes: it recovers what is in FILE. Then it finds two records,
+ * lists all, saves a setup, tidies three units with force and flush, and makes a checkpoint. With WRITES the supply is cut after so many writes to
+ * FILE: run it again, and see that nothing is lost, and that the setup is there whole or as it was before.
  *
  * FILE is 16,384 bytes of store pages, then two areas of 8,192 bytes for the log, so that a checkpoint's log can replace the old one in one
  * piece: it goes to the area that is not in use, and at wake the area whose check record has the larger number is the log. */
@@ -26,6 +26,9 @@ static uint8_t work[UHTLIGHT_STORE_BYTES];
 static uint8_t store[UHTLIGHT_STORE_BYTES];
 static uint8_t log_bytes[UHTLIGHT_LOG_BYTES];
 static uint8_t room[UHTLIGHT_RECORD * UHTLIGHT_RECORDS];
+
+enum { SETUP = 305 }; /* the key of the setup that is saved */
+static char setup;    /* its letter when it was last looked for */
 
 /* ---- the chip */
 
@@ -125,10 +128,19 @@ static void wake(void)
     printf("recovered, %u records appended\n", (unsigned)r.count);
 }
 
+/* The first byte of this record's value, '-' where there is none. */
+static char find(uint32_t key)
+{
+    struct uhtlight_found f = uhtlight_find(&numbers, work, sizeof work, log_bytes, sizeof log_bytes, key);
+    char value = f.reply == UHTLIGHT_DONE ? (char)f.value[0] : '-';
+    printf("find %u: reply %u, value %c\n", (unsigned)key, f.reply, value);
+    return value;
+}
+
 static void look(void)
 {
-    struct uhtlight_found f = uhtlight_find(&numbers, work, sizeof work, log_bytes, sizeof log_bytes, 300);
-    printf("find 300: reply %u, value %c\n", f.reply, f.reply == UHTLIGHT_DONE ? f.value[0] : '-');
+    find(300);
+    setup = find(SETUP);
     struct uhtlight_listed l = uhtlight_list(&numbers, work, sizeof work, log_bytes, sizeof log_bytes, 0, UINT32_MAX, room, sizeof room);
     printf("list: reply %u, %u records, more %u\n", l.reply, (unsigned)l.count, l.more);
 }
@@ -154,6 +166,45 @@ static void settle(void)
     }
 }
 
+/* The log is empty again, once the store has all that the work pages have. */
+static void renew_log(void)
+{
+    settle();
+    unsigned reply = uhtlight_checkpoint(&numbers, work, sizeof work, store, sizeof store, log_bytes, sizeof log_bytes, false);
+    if (reply != UHTLIGHT_DONE)
+        stop("checkpoint refused", reply);
+    program_new_log();
+}
+
+/* Steps to the open unit's end, each record programmed at once. */
+static unsigned finish(void)
+{
+    unsigned steps = 0, reply;
+    do {
+        program_log();
+        steps++;
+    } while ((reply = uhtlight_step(&numbers, work, sizeof work, log_bytes, sizeof log_bytes)) == UHTLIGHT_DONE);
+    if (reply != UHTLIGHT_CLOSED)
+        stop("step refused", reply);
+    return steps;
+}
+
+/* The setup is saved, one letter on from what it was. From the write of the unit's first record on it survives a cut. */
+static void save(void)
+{
+    uint8_t record[UHTLIGHT_RECORD] = {'r', 'c', SETUP & 255, SETUP >> 8};
+    record[6] = (uint8_t)(setup == '-' || setup == 'z' ? 'a' : setup + 1);
+    unsigned reply;
+    while ((reply = uhtlight_begin_put(&numbers, work, sizeof work, log_bytes, sizeof log_bytes, record, sizeof record)) == UHTLIGHT_ROOM)
+        renew_log();
+    if (reply != UHTLIGHT_DONE)
+        stop("put refused", reply);
+    printf("setup %u begun, value %c\n", SETUP, record[6]);
+    unsigned steps = finish();
+    settle();
+    printf("setup %u saved in %u steps\n", SETUP, steps);
+}
+
 /* One unit: packing first, then order. False where nothing is left to tidy. */
 static bool tidy(void)
 {
@@ -167,14 +218,7 @@ static bool tidy(void)
         return false;
     if (reply != UHTLIGHT_DONE)
         stop("begin refused", reply);
-    unsigned steps = 0;
-    do {
-        program_log();
-        steps++;
-    } while ((reply = uhtlight_step(&numbers, work, sizeof work, log_bytes, sizeof log_bytes)) == UHTLIGHT_DONE);
-    if (reply != UHTLIGHT_CLOSED)
-        stop("step refused", reply);
-    printf("a unit %s in %u steps\n", what, steps);
+    printf("a unit %s in %u steps\n", what, finish());
     settle();
     return true;
 }
@@ -194,12 +238,10 @@ int main(int count, char **words)
     }
     look();
     settle();
+    save();
     for (int units = 0; units < 3 && tidy(); units++)
         ;
-    unsigned reply = uhtlight_checkpoint(&numbers, work, sizeof work, store, sizeof store, log_bytes, sizeof log_bytes, false);
-    if (reply != UHTLIGHT_DONE)
-        stop("checkpoint refused", reply);
-    program_new_log();
+    renew_log();
     look();
     return 0;
 }

@@ -5,8 +5,8 @@
  * 1. Every call takes any bytes and any numbers, ends, stays within its buffers and refuses bad input with a number.
  * 2. Every call does exactly what its definition says: reply, values, numbers and every byte of each buffer. A refusal changes nothing, but a
  *    refused recovery (unless it is refused with UHTLIGHT_LENGTH) leaves the work pages zero.
- * 3. From a finished build, after any calls and any cuts, recovery is accepted; it leaves a well-formed tree with exactly the records of the
- *    start, and every unit that was begun and not lost with the log's end is complete.
+ * 3. From a finished build, after any calls and any cuts, recovery is accepted; it leaves a well-formed tree, every unit that was begun and not
+ *    lost with the log's end is complete, and the records are those of the start after these puts and deletes, exactly.
  *
  * Each is a theorem about the code in the library; docs/PROMISE.md says the third in full.
  *
@@ -41,14 +41,29 @@
  *
  * AT WAKE      read store and log from the chip, call uhtlight_recover. It finishes a unit that a cut has interrupted, so the log may be longer
  *              than the chip's: program it with the next force.
+ * TO SAVE      one record, 16 bytes; to delete one, uhtlight_begin_delete with its key in the place of uhtlight_begin_put:
+ *
+ *                  uint8_t reply = uhtlight_begin_put(&numbers, work, sizeof work, log, sizeof log, record, sizeof record);
+ *                  while (reply == UHTLIGHT_DONE)
+ *                      reply = uhtlight_step(&numbers, work, sizeof work, log, sizeof log);
+ *                  if (reply == UHTLIGHT_CLOSED) {
+ *                      program_log(log, numbers.used);
+ *                      reply = uhtlight_force(&numbers, log, sizeof log);
+ *                  }
+ *
+ *              DONE: it is saved. ROOM: force, flush the pages that differ, checkpoint, and again. After a cut the record is saved whole
+ *              where the chip has the begin record, the first that was appended, and not at all where it has not.
  * BEFORE SLEEP until UHTLIGHT_NOTHING: uhtlight_begin_compact, then uhtlight_step until UHTLIGHT_CLOSED; the same with uhtlight_begin_order.
  *              On UHTLIGHT_ROOM: force, flush the pages that differ, checkpoint, begin again. The supply may be cut anywhere.
  *
  * WORST CASES
  *
- *   a unit             26 records, its begin and 25 steps, and 876 bytes of the log: 8 leaves with 15 records packed into a new place
+ *   a tidying unit     26 records, its begin and 25 steps, and 876 bytes of the log: 8 leaves with 15 records packed into a new place
+ *   a put              5 records and 892 bytes: a leaf splits, or there was no leaf; else 3 records and 348 bytes
+ *   a delete           6 records and 1,164 bytes: the first base page is emptied; 3 and 348 where its leaf keeps a record
  *   recovery           25 records appended
- *   stack, in bytes    build 1,152; recover 1,024; begin, step and list 768; range_next 256; the others 512
+ *   stack, in bytes    recover 1,600; step 1,472; build 1,152; begin_put and begin_delete 896; begin_compact, begin_order and list 768;
+ *                      range_next 256; the others 512
  *
  * The stack is what a call takes with its arguments, its answer and the return address. It is measured on x86-64 by tests/stack.c, which fails
  * where a call takes more; docs/PERFORMANCE.md has the figures.
@@ -87,12 +102,13 @@ enum uhtlight_reply {
     UHTLIGHT_OPEN = 9,      /* a unit is open: step to its end first */
     UHTLIGHT_CLOSED = 10,   /* no unit is open */
     UHTLIGHT_NOTHING = 11,  /* nothing left to tidy */
-    UHTLIGHT_RANGE = 12,    /* a fill or page number is out of range, or record bytes are no multiple of 16 */
+    UHTLIGHT_RANGE = 12,    /* a fill or page number is out of range; record bytes are no multiple of 16, or a put's are not 16 */
     UHTLIGHT_UNFORCED = 13, /* the page's last record is not forced */
     UHTLIGHT_DIFFERS = 14,  /* a work page differs from the store */
     UHTLIGHT_ABSENT = 15,   /* no record has this key */
     UHTLIGHT_RECORD_BAD = 16, /* a record's mark is wrong, or keys do not ascend */
-    UHTLIGHT_LARGE = 17     /* too many records: over 56 leaves or 7 base pages */
+    UHTLIGHT_LARGE = 17,    /* too many records: over 56 leaves or 7 base pages */
+    UHTLIGHT_CROWDED = 18   /* a put needs a new leaf, and no leaf page is empty or the base page is full: delete, or tidy */
 };
 
 /* Bytes of the log that are used, and that are forced. Lent to every call, which updates it. */
@@ -140,7 +156,7 @@ uint8_t uhtlight_build(struct uhtlight_numbers *numbers, uint8_t *work, size_t w
     size_t log_bytes, const uint8_t *records, size_t records_bytes, uint32_t leaf_fill, uint32_t base_fill);
 
 /* Copies store to work, repeats what the log holds beyond it, and finishes an open unit. Whatever work and numbers were is ignored.
- * Replies 0, LENGTH, LOG, FORM, AHEAD, MISFIT, ROOM, NUMBER, TREE. */
+ * Replies 0, LENGTH, LOG, FORM, AHEAD, CROWDED, ABSENT, MISFIT, ROOM, NUMBER, TREE. */
 struct uhtlight_recovered uhtlight_recover(struct uhtlight_numbers *numbers, uint8_t *work, size_t work_bytes, const uint8_t *store,
     size_t store_bytes, uint8_t *log, size_t log_bytes);
 
@@ -151,8 +167,17 @@ uint8_t uhtlight_begin_compact(struct uhtlight_numbers *numbers, const uint8_t *
 /* Begins a unit that puts a leaf where it belongs in key order. Replies 0, LENGTH, LOG, OPEN, FORM, TREE, NOTHING, ROOM, NUMBER. */
 uint8_t uhtlight_begin_order(struct uhtlight_numbers *numbers, const uint8_t *work, size_t work_bytes, uint8_t *log, size_t log_bytes);
 
-/* The open unit's next step: one record, and one page changed or, at the unit's end, none.
- * Replies 0, LENGTH, LOG, CLOSED, FORM, MISFIT, ROOM, NUMBER. */
+/* Begins a unit that saves a record: it replaces the one with its key, or is added; a full leaf splits.
+ * Replies 0, LENGTH, LOG, RANGE, RECORD_BAD, OPEN, FORM, TREE, CROWDED, ROOM, NUMBER. */
+uint8_t uhtlight_begin_put(struct uhtlight_numbers *numbers, const uint8_t *work, size_t work_bytes, uint8_t *log, size_t log_bytes,
+    const uint8_t *record, size_t record_bytes);
+
+/* Begins a unit that deletes the record with this key; a leaf left without records becomes an empty page.
+ * Replies 0, LENGTH, LOG, OPEN, FORM, TREE, ABSENT, ROOM, NUMBER. */
+uint8_t uhtlight_begin_delete(struct uhtlight_numbers *numbers, const uint8_t *work, size_t work_bytes, uint8_t *log, size_t log_bytes, uint32_t key);
+
+/* The open unit's next step: one record, and one page changed or, at a tidying unit's end, none. A put or a delete changes its pages, up to
+ * four, at its end alone. Replies 0, LENGTH, LOG, CLOSED, FORM, TREE, CROWDED, ABSENT, MISFIT, ROOM, NUMBER. */
 uint8_t uhtlight_step(struct uhtlight_numbers *numbers, uint8_t *work, size_t work_bytes, uint8_t *log, size_t log_bytes);
 
 /* Copies one work page to the store. Replies 0, LENGTH, LOG, RANGE, UNFORCED. */

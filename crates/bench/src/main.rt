@@ -8,6 +8,8 @@
 //   R       recover
 //   C       fill 4: begin compact
 //   O S F   begin order, step, force
+//   U       length 4 (at most 64), so many bytes of a record: begin put
+//   X       key 4: begin delete
 //   P       page 4: flush
 //   K       clear 1 (0 or 1): checkpoint
 //   G       key 4: find
@@ -23,6 +25,7 @@ mod change;
 mod input;
 mod output;
 mod reading;
+mod save;
 mod setting;
 mod state;
 
@@ -45,6 +48,8 @@ fn turn(at: State, work: &mut [u8], store: &mut [u8], log: &mut [u8], room: &mut
         b'G' => reading::find(at, work, log),
         b'L' => reading::list(at, work, log, room),
         b'W' => reading::walk(at, work, room),
+        b'U' => save::put(at, work, log, room),
+        b'X' => save::delete(at, work, log),
         _ => change::turn(at, letter, work, store, log),
     }
 }

@@ -4,7 +4,7 @@
 ghost use mathlib.Core.Path.{_≡_};
 ghost use mathlib.Core.List.{[], _∷_};
 ghost use Rattle.field.specs.Test.{pick};
-ghost use Rattle.store.specs.Calls.{lent, left, build, recover, beginCompact, beginOrder, step, flush, force, checkpoint, find, list};
+ghost use Rattle.store.specs.Calls.{lent, left, build, recover, beginCompact, beginOrder, beginPut, beginDelete, step, flush, force, checkpoint, find, list};
 use answering::ListAnswer;
 use finding::FindAnswer;
 use recovering::RecoverAnswer;
@@ -59,6 +59,28 @@ pub fn begin_order(n: Numbers, work: &[u8], log: &mut [u8]) -> Answer
 {
     let mut m = n;
     let reply = uhtlight::uhtlight_begin_order(&mut m, work, log);
+    let numbers = m;
+    Answer { reply, numbers }
+}
+
+// A put of this record is begun: it replaces the one with its key, or is added.
+pub fn begin_put(n: Numbers, work: &[u8], log: &mut [u8], r: &[u8]) -> Answer
+    ensures begun { λ x. ⌜ left (x .reply) [] (lent (x .numbers .used) (x .numbers .forced) (now (work .entry)) [] (now (log .exit)) (now (r .entry)))
+        ≡ beginPut (lent (n .used) (n .forced) (now (work .entry)) [] (now (log .entry)) (now (r .entry))) ⌝ }
+{
+    let mut m = n;
+    let reply = uhtlight::uhtlight_begin_put(&mut m, work, log, r);
+    let numbers = m;
+    Answer { reply, numbers }
+}
+
+// A delete of the record with this key is begun.
+pub fn begin_delete(n: Numbers, work: &[u8], log: &mut [u8], key: u32) -> Answer
+    ensures begun { λ r. ⌜ left (r .reply) [] (lent (r .numbers .used) (r .numbers .forced) (now (work .entry)) [] (now (log .exit)) [])
+        ≡ beginDelete key (lent (n .used) (n .forced) (now (work .entry)) [] (now (log .entry)) []) ⌝ }
+{
+    let mut m = n;
+    let reply = uhtlight::uhtlight_begin_delete(&mut m, work, log, key);
     let numbers = m;
     Answer { reply, numbers }
 }

@@ -54,7 +54,14 @@ fn begun(n: Numbers, work: &[u8], log: &mut [u8], w: Walk, kind: u8, r: &[u8]) -
     if 4294967295 <= w.unit.0 {
         return known::kept(n, 7);
     }
-    writing::put_save(log, w.at, LogNo(w.number.0 + 1), UnitNo(w.unit.0 + 1), kind, r);
+    writing::put_save(
+        log,
+        w.at,
+        LogNo(w.number.0 + 1),
+        UnitNo(w.unit.0 + 1),
+        kind,
+        r,
+    );
     Answer {
         reply: 0,
         numbers: Numbers {

@@ -1,6 +1,6 @@
 -- What the code finds of an open put or delete: the pages worked out, and what comes of comparing them with the images logged. Assumes nothing.
 use Prim.Native.Nat.{ℕ, _+_, _-_}
-use mathlib.Core.Path.{_≡_, sym}
+use mathlib.Core.Path.{_≡_, sym, _∙_}
 use mathlib.Core.Bool.{Bool, true, false, not}
 use mathlib.Core.List.{List, map}
 use lib.ListN.{length, take, drop, getD}
@@ -12,9 +12,16 @@ use Rattle.saving.specs.Save.{Sheet, cannot, sheets}
 use Rattle.saving.specs.Draft.{Plans}
 use Rattle.saving.specs.Rest.{imageOf, begins}
 use Rattle.saving.specs.declared.plan.Plan.{Plan}
-use Rattle.resuming.specs.Lacking.{worked, compared, drafted, typeOn, recordOn, firstNumber, lastNumber, lacked}
-use Rattle.resuming.proofs.Stages.{compared-cannot, compared-same, compared-other, plan-refuses, plan-lists, length-drafted, plans-of}
+use Rattle.resuming.specs.Lacking.{readied, worked, compared, drafted, typeOn, recordOn, firstNumber, lastNumber, lacked}
+use Rattle.resuming.proofs.Stages.{worked-unready, compared-cannot, compared-same, compared-other, plan-refuses, plan-lists, length-drafted, plans-of}
 use Rattle.resuming.proofs.Agrees.{record-lent}
+
+pub found-unready : (l v : List ℕ) (w : Walk) (n : ℕ) → n ≡ readied v → (n ≡ 0 → ⊥) → (x : Plan) → ((w r : List ℕ) → Plans w r x (cannot n))
+    → Plans v (recordOn l w) x (lacked l w v)
+unfolding lacked
+found-unready l v w n e f x q =
+    let u : worked (typeOn l w) (recordOn l w) v ≡ cannot n = worked-unready (typeOn l w) (recordOn l w) v n e f in
+    plans-of v (recordOn l w) x _ _ (q v (recordOn l w)) (sym (compared-cannot (firstNumber w) (imagesOn l w) _ n u ∙ u))
 
 module _ (l v : List ℕ) (w : Walk) (x : Plan)
     (p : Plans v (take (w .begin + 44 + 16 - (w .begin + 44)) (drop (w .begin + 44) l)) x

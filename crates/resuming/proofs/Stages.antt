@@ -5,9 +5,10 @@ use mathlib.Core.Path.{_≡_, refl, sym, ap, _∙_}
 use mathlib.Core.Bool.{Bool, true, false, not}
 use mathlib.Core.List.{List, [], _∷_, _++_, map}
 use lib.ListN.{length, drop, getD, length-drop, length-map}
+use lib.Dec.{eqb}
 use lib.Seq.{length-take-le}
 use borrow.Author.Tests.{eq-eqb, ne-eqb, not-true, not-false}
-use Rattle.field.specs.Test.{need}
+use Rattle.field.specs.Test.{pick, need}
 use Rattle.field.specs.Bytes.{le4}
 use Rattle.field.proofs.Test.{pick-true, pick-false, need-true, need-false}
 use Rattle.page.specs.Page.{keyOf}
@@ -17,31 +18,58 @@ use Rattle.tree.specs.Tree.{wellFormed}
 use Rattle.saving.specs.Save.{Sheet, Changed, cannot, sheets, putSheets, deleteSheets}
 use Rattle.saving.specs.Draft.{planned, Plans}
 use Rattle.saving.specs.Rest.{imageOf, sheetsOf, refuses, lacks, begins, logging, imaging, saving, resumed}
-use Rattle.saving.proofs.Resumes.{length-logging}
 use Rattle.saving.specs.declared.plan.Plan.{Plan}
-use Rattle.resuming.specs.Lacking.{worked, compared, lacking, drafted, Needs}
+use Rattle.saving.proofs.Resumes.{length-logging}
+use Rattle.resuming.specs.Lacking.{readied, worked, compared, lacking, drafted, Needs}
 
 -- ---- the pages worked out, by the tests that the code makes
 
-module _ (t : ℕ) (r w : List ℕ) (z : Bool) (ez : z ≡ allFormed 0 (pages w)) where
-  pub worked-unformed : not z ≡ true → worked t r w ≡ cannot 3
-  unfolding worked
-  worked-unformed f = need-false _ _ _ (sym ez ∙ not-true z f)
+module _ (w : List ℕ) (z : Bool) (ez : z ≡ allFormed 0 (pages w)) where
+  pub unformed! : not z ≡ true → 3 ≡ readied w
+  unfolding readied
+  unformed! f = sym (need-false _ _ _ (sym ez ∙ not-true z f))
 
   module _ (f : not z ≡ false) (y : Bool) (ey : y ≡ wellFormed (pages w)) where
-    pub worked-unwell : not y ≡ true → worked t r w ≡ cannot 8
-    unfolding worked
-    worked-unwell g = need-true _ _ _ (sym ez ∙ not-false z f) ∙ need-false _ _ _ (sym ey ∙ not-true y g)
+    pub unwell! : not y ≡ true → 8 ≡ readied w
+    unfolding readied
+    unwell! g = sym (need-true _ _ _ (sym ez ∙ not-false z f) ∙ need-false _ _ _ (sym ey ∙ not-true y g))
 
-    module _ (g : not y ≡ false) where
-      pub worked-put : t ≡ 4 → worked t r w ≡ putSheets r (pages w)
-      unfolding worked
-      worked-put e = need-true _ _ _ (sym ez ∙ not-false z f) ∙ need-true _ _ _ (sym ey ∙ not-false y g) ∙ pick-true _ _ _ (eq-eqb t 4 e)
+    pub ready! : not y ≡ false → 0 ≡ readied w
+    unfolding readied
+    ready! g = sym (need-true _ _ _ (sym ez ∙ not-false z f) ∙ need-true _ _ _ (sym ey ∙ not-false y g))
 
-      pub worked-delete : (t ≡ 4 → ⊥) → (key : ℕ) → key ≡ le4 r 2 → worked t r w ≡ deleteSheets key (pages w)
-      unfolding worked keyOf
-      worked-delete e key k =
-          need-true _ _ _ (sym ez ∙ not-false z f) ∙ need-true _ _ _ (sym ey ∙ not-false y g) ∙ pick-false _ _ _ (ne-eqb t 4 e) ∙ rw (← k)
+-- what these tests leave of the others
+both-hold : (a b : Bool) → _≡_ {A = ℕ} (need a 3 (need b 8 0)) 0 → (a ≡ true) × (b ≡ true)
+unfolding need
+both-hold true true e = (refl, refl)
+both-hold true false e = absurd (let y : ⊥ = omega (arith, e) in y)
+both-hold false b e = absurd (let y : ⊥ = omega (arith, e) in y)
+
+one-fails : (a b : Bool) (v : ℕ) (c : Changed) → v ≡ need a 3 (need b 8 0) → (v ≡ 0 → ⊥) → need a (cannot 3) (need b (cannot 8) c) ≡ cannot v
+unfolding need
+one-fails true true v c e f = absurd (f e)
+one-fails true false v c e f = rw e
+one-fails false b v c e f = rw e
+
+pub readied-holds : (w : List ℕ) → readied w ≡ 0 → (allFormed 0 (pages w) ≡ true) × (wellFormed (pages w) ≡ true)
+unfolding readied
+readied-holds w e = both-hold (allFormed 0 (pages w)) (wellFormed (pages w)) e
+
+pub worked-unready : (t : ℕ) (r w : List ℕ) (v : ℕ) → v ≡ readied w → (v ≡ 0 → ⊥) → worked t r w ≡ cannot v
+unfolding worked readied
+worked-unready t r w v e f = one-fails (allFormed 0 (pages w)) (wellFormed (pages w)) v _ e f
+
+module _ (t : ℕ) (r w : List ℕ) (e : readied w ≡ 0) where
+  worked-is : worked t r w ≡ pick (eqb t 4) (putSheets r (pages w)) (deleteSheets (keyOf r) (pages w))
+  unfolding worked
+  worked-is = need-true _ _ _ (readied-holds w e .0) ∙ need-true _ _ _ (readied-holds w e .1)
+
+  pub worked-put : t ≡ 4 → worked t r w ≡ putSheets r (pages w)
+  worked-put k = worked-is ∙ pick-true _ _ _ (eq-eqb t 4 k)
+
+  pub worked-delete : (t ≡ 4 → ⊥) → (key : ℕ) → key ≡ le4 r 2 → worked t r w ≡ deleteSheets key (pages w)
+  unfolding keyOf
+  worked-delete f key k = worked-is ∙ pick-false _ _ _ (ne-eqb t 4 f) ∙ rw (← k)
 
 -- ---- the stages
 
@@ -147,6 +175,15 @@ module _ (u n : ℕ) (is : List Image) (xs : List Sheet) where
   lacking-count = length-logging (drop (length is) images) (LE u images ∷ []) ∙ rw (length-drop (length is) images, length-map xs (imageOf last))
 
 -- ---- before the unit begins
+
+-- where tests 3 or 8 refuse it
+pub needs-none : (g : Begin) (n t : ℕ) (r w : List ℕ) (v : ℕ) → v ≡ readied w → (v ≡ 0 → ⊥) → g .type ≡ t → getD (g .saved) 0 [] ≡ r → Needs (resumed g n [] w) v 0
+unfolding lacking
+needs-none g n t r w v e f et er =
+    record {
+      refused = λ h. resumed-by g n [] w ∙ rw (compared-none n (worked (g .type) (getD (g .saved) 0 []) w), et, er, worked-unready t r w v e f);
+      lacked = λ z. absurd (f z);
+    }
 
 module _ (g : Begin) (n t : ℕ) (r w : List ℕ) (x : Plan) (p : Plans w r x (worked t r w)) (et : g .type ≡ t) (er : getD (g .saved) 0 [] ≡ r) where
   stages : resumed g n [] w ≡ lacking (g .unit) n [] (worked t r w)

@@ -23,6 +23,10 @@ use Rattle.saving.specs.declared.plan.Plan.{Plan}
 
 -- ---- the pages changed
 
+-- tests 3 on all work pages and 8 alone: the reply, 0 where both hold
+unfoldable pub readied : (w : List ℕ) → ℕ
+readied w = need (allFormed 0 (pages w)) 3 (need (wellFormed (pages w)) 8 0)
+
 -- tests 3 on all work pages, 8, 18 or 15: the pages that a put (type 4) or delete with the record r changes
 unfoldable pub worked : (type : ℕ) (r w : List ℕ) → Changed
 worked t r w =

@@ -17,6 +17,7 @@ use field::LogNo;
 use log::kind;
 use log::scan::Walk;
 use log::writing;
+use page::image;
 use saving::draft::Draft;
 use saving::draw;
 use saving::plan;
@@ -43,7 +44,8 @@ fn append_image(work: &[u8], log: &mut [u8], w: Walk, d: Draft, k: u8)
 {
     let at = w.begin + kind::LB_LONG;
     let end = lacking::last_number(w, k);
-    let page = draw::draw(work, &log[at..at + 16], d, LogNo(end as u32));
+    let mut page = image::blank(d.sign);
+    draw::draw(&mut page, work, &log[at..at + 16], d, LogNo(end as u32));
     writing::put_image(log, w.at, LogNo(w.number.0 + 1), d.page, &page);
 }
 

@@ -19,6 +19,7 @@ use field::LogNo;
 use log::kind;
 use log::opening;
 use log::scan::Walk;
+use page::image;
 use saving::draft::Draft;
 use saving::draw;
 use saving::plan;
@@ -32,7 +33,8 @@ fn same_image(work: &[u8], r: &[u8], d: Draft, n: LogNo, m: &[u8]) -> bool
     if field::get2(m, 12) != d.page.0 {
         return false;
     }
-    let page = draw::draw(work, r, d, n);
+    let mut page = image::blank(d.sign);
+    draw::draw(&mut page, work, r, d, n);
     field::same_bytes(&m[kind::LG_LONG..kind::LG_LONG + 256], &page)
 }
 
@@ -95,6 +97,10 @@ pub fn lacked(work: &[u8], log: &[u8], w: Walk) -> Plan
     requires { ⌜ (length (now work) ≡ 16384) × Unfinished (now log) w ⌝ }
     ensures { λ x. ⌜ Plans (now (work .entry)) (recordOn (now (log .entry)) w) x (lacked (now (log .entry)) w (now (work .entry))) ⌝ }
 {
+    let reply = working::readied(work);
+    if reply != 0 {
+        return plan::refused(reply);
+    }
     let at = w.begin + kind::LB_LONG;
     let x = working::worked(work, &log[at..at + 16], log[w.begin + opening::TYPE_AT]);
     if x.reply != 0 {

@@ -40,9 +40,11 @@ unfolding begins
 begins-more n [] [] k ks b t e = let z : _≡_ {A = ℕ} 0 1 = cc in absurd (omega arith)
 begins-more n [] (j ∷ js) k ks b t e =
     let a : j ≡ k = cc in
-    let c : js ≡ ks = cc in
-    (rw (← a) (all-intro _ _ (eq-eqb (j .at) (j .at) refl)
-    (all-intro _ _ (same-refl (j .bytes)) (all-intro _ _ (eq-eqb (number (j .bytes)) n (b .0)) (all-intro _ _ refl all-nil)))), c)
+    let c : js ≡ ks = cc in (
+      rw (← a) (all-intro _ _ (eq-eqb (j .at) (j .at) refl)
+          (all-intro _ _ (same-refl (j .bytes)) (all-intro _ _ (eq-eqb (number (j .bytes)) n (b .0)) (all-intro _ _ refl all-nil)))),
+      c,
+    )
 begins-more n (i ∷ is) [] k ks b t e = let z : _≡_ {A = ℕ} 0 1 = cc in absurd (omega arith)
 begins-more n (i ∷ is) (j ∷ js) k ks b t e =
     let t1 = all-tail _ _ t in

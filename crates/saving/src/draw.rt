@@ -1,9 +1,9 @@
 // Drawing: the bytes of a changed page, from its draft.
 ghost use mathlib.Core.Path.{_≡_};
 ghost use mathlib.Core.List.{[]};
-ghost use Prim.Native.Nat.{_+_, _*_, _≤_, _<_};
+ghost use Prim.Native.Nat.{ℕ, _+_, _*_, _≤_, _<_};
 ghost use lib.ListN.{length};
-ghost use Rattle.field.specs.Bytes.{put};
+ghost use Rattle.field.specs.Bytes.{put, zeroes};
 ghost use Rattle.page.specs.Page.{joined, entry, made};
 ghost use Rattle.page.specs.Pages.{pages};
 ghost use Rattle.saving.specs.Save.{drawn};
@@ -13,21 +13,18 @@ use crate::draft::More;
 use field::LogNo;
 use field::PageNo;
 use page::change;
-use page::image;
 
-// Page p with this letter and number, with no rows, its spare bytes kept or zero.
-fn begun(w: &[u8], p: PageNo, sign: u8, kept: bool, n: LogNo) -> [u8; 256]
-    requires { ⌜ (length (now w) ≡ 16384) × (p .0 < 64) ⌝ }
-    ensures { λ r. ⌜ r ≡ made sign (n .0) (spareOf kept (p .0) (pages (now (w .entry)))) [] ⌝ }
+// Writes this log number over a blank image and, where they are kept, the spare bytes of page p.
+fn begin(image: &mut [u8], w: &[u8], p: PageNo, kept: bool, n: LogNo)
+    requires { ⌜ (length (now w) ≡ 16384) × (p .0 < 64) × (length (now image) ≡ 256) ⌝ }
+    ensures { λ _. ⌜ ((sign : ℕ) → now (image .entry) ≡ made sign 0 (zeroes 8) [] → now (image .exit) ≡ made sign (n .0) (spareOf kept (p .0) (pages (now (w .entry)))) []) ⌝ }
 {
-    let mut image = image::blank(sign);
-    change::stamp(&mut image, n);
+    change::stamp(image, n);
     if !kept {
-        return image;
+        return;
     }
     let at = 256 * (p.0 as usize) + 8;
-    field::copy(&mut image, 8, &w[at..at + 8]);
-    image
+    field::copy(image, 8, &w[at..at + 8]);
 }
 
 // Writes k rows of `size` bytes each over the image, from the offset at: those of page q from the i-th on.
@@ -69,19 +66,19 @@ fn add_more(image: &mut [u8], at: usize, r: &[u8], more: More) -> u16
     }
 }
 
-// The bytes of the page that a draft stands for, with this log number; r is the record put. The image is filled in place.
-pub fn draw(w: &[u8], r: &[u8], d: Draft, n: LogNo) -> [u8; 256]
-    requires { ⌜ (length (now w) ≡ 16384) × (length (now r) ≡ 16) × Ready (now w) d ⌝ }
-    ensures { λ image. ⌜ image ≡ drawn (n .0) (sheetOf (pages (now (w .entry))) (now (r .entry)) d) ⌝ }
+// Draws the page that a draft stands for, with this log number, over a blank image with its letter; r is the record put.
+pub fn draw(image: &mut [u8], w: &[u8], r: &[u8], d: Draft, n: LogNo)
+    requires { ⌜ (length (now w) ≡ 16384) × (length (now r) ≡ 16) × Ready (now w) d × (length (now image) ≡ 256) × (now image ≡ made (d .sign) 0 (zeroes 8) []) ⌝ }
+    ensures { λ _. ⌜ now (image .exit) ≡ drawn (n .0) (sheetOf (pages (now (w .entry))) (now (r .entry)) d) ⌝ }
 {
     let size = d.size as usize;
     let behind = 16 + size * (d.many as usize);
-    let mut image = begun(w, d.page, d.sign, d.kept, n);
-    add_run(&mut image, 16, w, d.source, size, d.from, d.many);
+    begin(image, w, d.page, d.kept, n);
+    add_run(image, 16, w, d.source, size, d.from, d.many);
     let more = d.more;
-    let m = add_more(&mut image, behind, r, more);
+    let m = add_more(image, behind, r, more);
     add_run(
-        &mut image,
+        image,
         behind + size * (m as usize),
         w,
         d.source,
@@ -89,6 +86,5 @@ pub fn draw(w: &[u8], r: &[u8], d: Draft, n: LogNo) -> [u8; 256]
         d.next,
         d.rest,
     );
-    field::put2(&mut image, 2, d.many + m + d.rest);
-    image
+    field::put2(image, 2, d.many + m + d.rest);
 }

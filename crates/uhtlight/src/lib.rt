@@ -1,11 +1,11 @@
-// The public calls as document 01 has them: bytes used and bytes forced are one small record that each call is lent and updates. A call hands
+// The public calls as documents 01 and 02 have them: bytes used and bytes forced are one small record that each call is lent and updates. A call hands
 // its core a copy of that record, puts what comes back in its place and returns the rest; so its contract is the core's, with the record at
 // entry and at exit for the numbers. Beside them stand the range reader's two, lent the work pages alone. These are also the names that C has.
 ghost use mathlib.Core.Path.{_≡_};
 ghost use mathlib.Core.List.{[], _∷_};
 ghost use Rattle.field.specs.Test.{pick};
 ghost use Rattle.ranging.specs.Reading.{startFrom, nextFrom};
-ghost use Rattle.store.specs.Calls.{lent, left, build, recover, beginCompact, beginOrder, step, flush, force, checkpoint, find, list};
+ghost use Rattle.store.specs.Calls.{lent, left, build, recover, beginCompact, beginOrder, beginPut, beginDelete, step, flush, force, checkpoint, find, list};
 use answering::Listed;
 use ranging::Reached;
 use ranging::Step;
@@ -72,6 +72,33 @@ pub extern "C" fn uhtlight_begin_order(n: &mut Numbers, work: &[u8], log: &mut [
         ≡ beginOrder (lent (now (n .entry) .used) (now (n .entry) .forced) (now (work .entry)) [] (now (log .entry)) []) ⌝ }
 {
     let a = beginning::begin_order(*n, work, log);
+    *n = a.numbers;
+    a.reply
+}
+
+// A put of this record is begun: it replaces the one with its key, or is added.
+#[no_mangle]
+pub extern "C" fn uhtlight_begin_put(n: &mut Numbers, work: &[u8], log: &mut [u8], r: &[u8]) -> u8
+    ensures begun { λ x. ⌜ left x [] (lent (now (n .exit) .used) (now (n .exit) .forced) (now (work .entry)) [] (now (log .exit)) (now (r .entry)))
+        ≡ beginPut (lent (now (n .entry) .used) (now (n .entry) .forced) (now (work .entry)) [] (now (log .entry)) (now (r .entry))) ⌝ }
+{
+    let a = putting::begin_put(*n, work, log, r);
+    *n = a.numbers;
+    a.reply
+}
+
+// A delete of the record with this key is begun.
+#[no_mangle]
+pub extern "C" fn uhtlight_begin_delete(
+    n: &mut Numbers,
+    work: &[u8],
+    log: &mut [u8],
+    key: u32,
+) -> u8
+    ensures begun { λ r. ⌜ left r [] (lent (now (n .exit) .used) (now (n .exit) .forced) (now (work .entry)) [] (now (log .exit)) [])
+        ≡ beginDelete key (lent (now (n .entry) .used) (now (n .entry) .forced) (now (work .entry)) [] (now (log .entry)) []) ⌝ }
+{
+    let a = putting::begin_delete(*n, work, log, key);
     *n = a.numbers;
     a.reply
 }

@@ -3,7 +3,7 @@ use mathlib.Core.Path.{refl, sym, _∙_}
 use mathlib.Core.List.{[]}
 use borrow.Author.Tests.{not-true, not-false}
 use Rattle.starting.proofs.Asked.{begin-work, begin-log, begin-form, begin-inside}
-use Rattle.putting.proofs.Puts.{delete-is, delete-goes, deleting-long!}
+use Rattle.putting.proofs.Puts.{delete-is, delete-goes, deleting-long! }
 use borrow.Author.Needs.{needs}
 use Rattle.putting.proofs.begin_delete.Statement.{statement}
 use Rattle.putting.proofs.begin_delete.Tie as tie
@@ -44,13 +44,12 @@ slice-aggregate-begun : tie.Need-slice-aggregate-begun
 slice-aggregate-begun c = search needs
 
 begun-requires : tie.Need-begun-requires
-begun-requires c κs =
-    (
-      c .before .before .before .before .before .before .before .before .if1 .left,
-      c .before .before .before .before .before .before .before .if2 .left,
-      begin-inside _ _ (c .before .before .before .before .before .before .before .before .before .before .before .args .work .now) _ [] (c .before .before .before .before .before .before .before .if2 .left) _ (c .before .before .before .before .before .scan-log .ensures) (sym (c .before .before .before .before .knows .ensures) ∙ not-false _ (c .before .before .before .if3 .left)),
-      deleting-long! _ _ (c .before .before .deleting .ensures),
-    )
+begun-requires c κs = (
+  c .before .before .before .before .before .before .before .before .if1 .left,
+  c .before .before .before .before .before .before .before .if2 .left,
+  begin-inside _ _ (c .before .before .before .before .before .before .before .before .before .before .before .args .work .now) _ [] (c .before .before .before .before .before .before .before .if2 .left) _ (c .before .before .before .before .before .scan-log .ensures) (sym (c .before .before .before .before .knows .ensures) ∙ not-false _ (c .before .before .before .if3 .left)),
+  deleting-long! _ _ (c .before .before .deleting .ensures),
+)
 
 same-length-2 : tie.Need-same-length-2
 same-length-2 c = search needs

@@ -63,13 +63,12 @@ returns-5 c =
     (sym (c .before .before .before .before .before .knows .ensures) ∙ not-false _ (c .before .before .before .before .if3 .left)) (c .before .before .before .if4 .left) _ (c .before .before .get2 .ensures) _ _ _ (c .kept5 .ensures) (c .before .if5 .taken)
 
 begun-requires : tie.Need-begun-requires
-begun-requires c κs =
-    (
-      c .before .before .before .before .before .before .before .before .before .if1 .left,
-      c .before .before .before .before .before .before .before .before .if2 .left,
-      begin-inside _ _ (c .before .before .before .before .before .before .before .before .before .before .before .before .before .args .work .now) _ (c .before .before .before .before .before .before .before .before .before .before .before .before .before .args .r .now) (c .before .before .before .before .before .before .before .before .if2 .left) _ (c .before .before .before .before .before .before .scan-log .ensures) (sym (c .before .before .before .before .before .knows .ensures) ∙ not-false _ (c .before .before .before .before .if3 .left)),
-      c .before .before .before .if4 .left,
-    )
+begun-requires c κs = (
+  c .before .before .before .before .before .before .before .before .before .if1 .left,
+  c .before .before .before .before .before .before .before .before .if2 .left,
+  begin-inside _ _ (c .before .before .before .before .before .before .before .before .before .before .before .before .before .args .work .now) _ (c .before .before .before .before .before .before .before .before .before .before .before .before .before .args .r .now) (c .before .before .before .before .before .before .before .before .if2 .left) _ (c .before .before .before .before .before .before .scan-log .ensures) (sym (c .before .before .before .before .before .knows .ensures) ∙ not-false _ (c .before .before .before .before .if3 .left)),
+  c .before .before .before .if4 .left,
+)
 
 same-length-4 : tie.Need-same-length-4
 same-length-4 c = search needs

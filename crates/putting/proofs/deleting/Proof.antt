@@ -1,5 +1,5 @@
 -- `putting::deleting` meets its contract. Assumes nothing.
-use Rattle.putting.proofs.Puts.{deleting-is!}
+use Rattle.putting.proofs.Puts.{deleting-is! }
 use borrow.Author.Needs.{needs}
 use Rattle.putting.proofs.deleting.Statement.{statement}
 use Rattle.putting.proofs.deleting.Tie as tie

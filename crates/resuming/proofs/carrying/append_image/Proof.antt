@@ -1,7 +1,6 @@
 -- `resuming::carrying::append_image` meets its contract. Assumes nothing.
 use native.Mathlib.Omega.{arith}
 use Rattle.log.specs.Record.{lengthOf}
-use Rattle.resuming.proofs.Agrees.{record-long}
 use Rattle.resuming.proofs.Carries.{image-written}
 use borrow.Author.Needs.{needs}
 use Rattle.resuming.proofs.carrying.append_image.Statement.{statement}
@@ -14,9 +13,15 @@ add-at c = let u = c .before .before .before .pre .1 in omega (arith, u .laid, u
 last-number-requires : tie.Need-last-number-requires
 last-number-requires c κs = c .before .before .before .pre .1 .counted
 
+blank-requires : tie.Need-blank-requires
+blank-requires c κs = search needs
+
+slice-aggregate-draw : tie.Need-slice-aggregate-draw
+slice-aggregate-draw c = search needs
+
 add-draw : tie.Need-add-draw
 unfolding lengthOf
-add-draw c = let u = c .before .before .before .before .pre .1 in omega (arith, u .laid, u .inside)
+add-draw c = let u = c .before .before .before .before .before .before .pre .1 in omega (arith, u .laid, u .inside)
 
 sub-draw : tie.Need-sub-draw
 sub-draw c = search needs
@@ -26,18 +31,16 @@ part-draw-start c = search needs
 
 part-draw-end : tie.Need-part-draw-end
 unfolding lengthOf
-part-draw-end c = let u = c .before .before .before .before .before .pre .1 in omega (arith, u .laid, u .inside)
+part-draw-end c = let u = c .before .before .before .before .before .before .before .pre .1 in omega (arith, u .laid, u .inside)
 
-cast-t15 : tie.Need-cast-t15
-cast-t15 c = omega (arith, c .before .before .before .before .before .before .pre .5, c .before .before .last-number .ensures)
+cast-t18 : tie.Need-cast-t18
+cast-t18 c = omega (arith, c .before .before .before .before .before .before .before .before .pre .5, c .before .before .before .before .last-number .ensures)
 
 draw-requires : tie.Need-draw-requires
-draw-requires c κs =
-    let a = c .before .before .before .before .before .before in
-    (a .pre .0, record-long (a .args .log .now) (a .args .w) (a .pre .1), a .pre .2)
+draw-requires c κs = search needs
 
-add-t15 : tie.Need-add-t15
-add-t15 c = search needs
+add-t18 : tie.Need-add-t18
+add-t18 c = search needs
 
 slice-aggregate-put-image : tie.Need-slice-aggregate-put-image
 slice-aggregate-put-image c = search needs
@@ -50,8 +53,8 @@ same-length c = search needs
 
 returns : tie.Need-returns
 returns c =
-    let a = c .before .before .before .before .before .before .before .before .before .before .before .before .before in
-    image-written (a .args .log .now) (a .args .work .now) (a .args .w) _ (a .args .k) _ (c .before .before .before .before .before .before .before .before .before .last-number .ensures) (a .args .d) _ (c .before .before .before .before .before .before .draw .ensures) _ (c .before .before .put-image .ensures)
+    let a = c .before .before .before .before .before .before .before .before .before .before .before .before .before .before .before .before in
+    image-written (a .args .log .now) (a .args .work .now) (a .args .w) _ (a .args .k) _ (c .before .before .before .before .before .before .before .before .before .before .before .before .last-number .ensures) (a .args .d) _ (c .before .before .before .before .before .before .before .draw .ensures) _ (c .before .before .put-image .ensures)
 
 pub append-image-spec : {M : Type 1} → statement M
 append-image-spec =
@@ -59,13 +62,15 @@ append-image-spec =
     (tie.spec
     add-at
     last-number-requires
+    blank-requires
+    slice-aggregate-draw
     add-draw
     sub-draw
     part-draw-start
     part-draw-end
-    cast-t15
+    cast-t18
     draw-requires
-    add-t15
+    add-t18
     slice-aggregate-put-image
     put-image-requires
     same-length

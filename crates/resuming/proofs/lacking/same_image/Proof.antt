@@ -13,6 +13,12 @@ get2-requires c κs = omega (arith, c .before .before .before .pre .3)
 returns : tie.Need-returns
 returns c = search page-other!
 
+blank-requires : tie.Need-blank-requires
+blank-requires c κs = search needs
+
+slice-aggregate-draw : tie.Need-slice-aggregate-draw
+slice-aggregate-draw c = search needs
+
 draw-requires : tie.Need-draw-requires
 draw-requires c κs = search needs
 
@@ -27,7 +33,7 @@ part-same-bytes-start c = search needs
 
 part-same-bytes-end : tie.Need-part-same-bytes-end
 unfolding lengthOf
-part-same-bytes-end c = omega (arith, c .before .before .before .before .before .before .before .pre .3)
+part-same-bytes-end c = omega (arith, c .before .before .before .before .before .before .before .before .before .before .pre .3)
 
 slice-aggregate-same-bytes : tie.Need-slice-aggregate-same-bytes
 slice-aggregate-same-bytes c = search needs
@@ -44,6 +50,8 @@ same-image-spec =
     (tie.spec
     get2-requires
     returns
+    blank-requires
+    slice-aggregate-draw
     draw-requires
     add-same-bytes
     sub-same-bytes

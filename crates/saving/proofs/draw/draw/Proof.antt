@@ -8,15 +8,15 @@ use Rattle.saving.proofs.draw.draw.Tie as tie
 
 -- the rows fit, and are few
 room : (c : tie.After-add-more)
-    → let d = c .before .before .before .before .before .before .before .before .before .before .args .d in 16 + d .size * d .many + d .size * c .add-more .result + d .size * d .rest ≤ 256
+    → let d = c .before .before .before .before .before .before .before .before .before .before .before .before .before .before .before .args .d in 16 + d .size * d .many + d .size * c .add-more .result + d .size * d .rest ≤ 256
 room c =
-    let a = c .before .before .before .before .before .before .before .before .before .before in
+    let a = c .before .before .before .before .before .before .before .before .before .before .before .before .before .before .before in
     back-fits (a .args .w .now) (a .args .r .now) (a .args .d) (a .pre .0) (a .pre .1) (a .pre .2) _ (c .add-more .ensures .1)
 
 few : (c : tie.After-add-more)
-    → let d = c .before .before .before .before .before .before .before .before .before .before .args .d in d .many + c .add-more .result + d .rest ≤ 30
+    → let d = c .before .before .before .before .before .before .before .before .before .before .before .before .before .before .before .args .d in d .many + c .add-more .result + d .rest ≤ 30
 few c =
-    let a = c .before .before .before .before .before .before .before .before .before .before in
+    let a = c .before .before .before .before .before .before .before .before .before .before .before .before .before .before .before in
     few-rows (a .args .w .now) (a .args .r .now) (a .args .d) (a .pre .0) (a .pre .1) (a .pre .2) _ (c .add-more .ensures .1)
 
 cast-size : tie.Need-cast-size
@@ -31,62 +31,60 @@ mul-behind c = search needs
 add-behind : tie.Need-add-behind
 add-behind c = search needs
 
-begun-requires : tie.Need-begun-requires
-begun-requires c κs = search needs
-
-slice-aggregate-add-run : tie.Need-slice-aggregate-add-run
-slice-aggregate-add-run c = search needs
+begin-requires : tie.Need-begin-requires
+begin-requires c κs = search needs
 
 add-run-requires : tie.Need-add-run-requires
 add-run-requires c κs = search needs
 
-slice-aggregate-add-more : tie.Need-slice-aggregate-add-more
-slice-aggregate-add-more c = search needs
-
 add-more-requires : tie.Need-add-more-requires
 add-more-requires c κs =
-    let a = c .before .before .before .before .before .before .before .before .before in
+    let a = c .before .before .before .before .before .before .before .before .before .before .before .before .before .before in
     omega (arith, new-fits (a .args .w .now) (a .args .r .now) (a .args .d) (a .pre .0) (a .pre .1) (a .pre .2))
-
-slice-aggregate-add-run-2 : tie.Need-slice-aggregate-add-run-2
-slice-aggregate-add-run-2 c = search needs
 
 cast-add-run : tie.Need-cast-add-run
 cast-add-run c = search needs
 
 mul-add-run : tie.Need-mul-add-run
-mul-add-run c = omega (arith, room (c .before .before))
+mul-add-run c = omega (arith, room (c .before .before .before))
 
 add-add-run : tie.Need-add-add-run
-add-add-run c = omega (arith, room (c .before .before))
+add-add-run c = omega (arith, room (c .before .before .before))
 
 add-run-requires-2 : tie.Need-add-run-requires-2
 add-run-requires-2 c κs =
-    let m = c .before .before in
-    let a = m .before .before .before .before .before .before .before .before .before .before in
+    let m = c .before .before .before in
+    let a = m .before .before .before .before .before .before .before .before .before .before .before .before .before .before .before in
     (a .pre .0, a .pre .2 .source, a .pre .2 .back, omega (arith, room m))
 
-slice-aggregate-put2 : tie.Need-slice-aggregate-put2
-slice-aggregate-put2 c = search needs
-
 add-put2 : tie.Need-add-put2
-add-put2 c = omega (arith, few (c .before .before .before .before .before .before))
+add-put2 c = omega (arith, few (c .before .before .before .before .before .before .before .before))
 
 add-put2-2 : tie.Need-add-put2-2
-add-put2-2 c = omega (arith, few (c .before .before .before .before .before .before .before))
+add-put2-2 c = omega (arith, few (c .before .before .before .before .before .before .before .before .before))
 
 put2-requires : tie.Need-put2-requires
-put2-requires c κs = search needs
+put2-requires c κs =
+    let l = c .before .before .before .before .before in
+    let m = l .before .before .before .before in
+    let f = m .before .before .before .before in
+    let b = f .before .before .before .before in
+    let a = b .before .before .before .before .before .before .before in
+    omega (arith, l .add-run2 .kept .0, m .add-more .kept .0, f .add-run .kept .0, b .begin .kept .0, a .pre .3)
+
+same-length : tie.Need-same-length
+same-length c = search needs
 
 returns : tie.Need-returns
 returns c =
-    let l = c .before .before .before .before .before .before in
-    let m = l .before .before .before in
-    let f = m .before .before .before in
-    let b = f .before .before in
-    let a = b .before .before .before .before .before in
-    all-drawn (a .args .w .now) (a .args .r .now) (a .args .d) (a .pre .0) (a .pre .1) (a .pre .2) _ _ _ _ _ _ _ (m .add-more .ensures .1) (b .begun .ensures) (f .add-run .ensures)
-    (m .add-more .ensures .0) (l .add-run2 .ensures) (c .before .put2 .ensures)
+    let p = c .before .before in
+    let l = p .before .before .before .before .before .before in
+    let m = l .before .before .before .before in
+    let f = m .before .before .before .before in
+    let b = f .before .before .before .before in
+    let a = b .before .before .before .before .before .before .before in
+    all-drawn (a .args .w .now) (a .args .r .now) (a .args .d) (a .pre .0) (a .pre .1) (a .pre .2) _ _ _ _ _ _ _ (m .add-more .ensures .1) (b .begin .ensures _ (a .pre .4)) (f .add-run .ensures)
+    (m .add-more .ensures .0) (l .add-run2 .ensures) (p .put2 .ensures)
 
 pub draw-spec : {M : Type 1} → statement M
 draw-spec =
@@ -96,18 +94,15 @@ draw-spec =
     cast-behind
     mul-behind
     add-behind
-    begun-requires
-    slice-aggregate-add-run
+    begin-requires
     add-run-requires
-    slice-aggregate-add-more
     add-more-requires
-    slice-aggregate-add-run-2
     cast-add-run
     mul-add-run
     add-add-run
     add-run-requires-2
-    slice-aggregate-put2
     add-put2
     add-put2-2
     put2-requires
+    same-length
     returns)

@@ -1,20 +1,17 @@
--- `saving::draw::begun` meets its contract: a blank page, its number, and the spare bytes copied. Assumes nothing.
+-- `saving::draw::begin` meets its contract: a blank page, its number, and the spare bytes copied. Assumes nothing.
 use Rattle.saving.proofs.Image.{begun-clear!, begun-kept! }
 use borrow.Author.Needs.{needs}
-use Rattle.saving.proofs.draw.begun.Statement.{statement}
-use Rattle.saving.proofs.draw.begun.Tie as tie
-
-blank-requires : tie.Need-blank-requires
-blank-requires c κs = search needs
-
-slice-aggregate-stamp : tie.Need-slice-aggregate-stamp
-slice-aggregate-stamp c = search needs
+use Rattle.saving.proofs.draw.begin.Statement.{statement}
+use Rattle.saving.proofs.draw.begin.Tie as tie
 
 stamp-requires : tie.Need-stamp-requires
 stamp-requires c κs = search needs
 
+same-length : tie.Need-same-length
+same-length c = search needs
+
 returns : tie.Need-returns
-returns c = search begun-clear!
+returns c = λ s e. search begun-clear!
 
 cast-at : tie.Need-cast-at
 cast-at c = search needs
@@ -24,9 +21,6 @@ mul-at c = search needs
 
 add-at : tie.Need-add-at
 add-at c = search needs
-
-slice-aggregate-copy : tie.Need-slice-aggregate-copy
-slice-aggregate-copy c = search needs
 
 add-copy : tie.Need-add-copy
 add-copy c = search needs
@@ -43,24 +37,26 @@ part-copy-end c = search needs
 copy-requires : tie.Need-copy-requires
 copy-requires c κs = search needs
 
-returns-2 : tie.Need-returns-2
-returns-2 c = search begun-kept!
+same-length-2 : tie.Need-same-length-2
+same-length-2 c = search needs
 
-pub begun-spec : {M : Type 1} → statement M
-begun-spec =
+returns-2 : tie.Need-returns-2
+returns-2 c = λ s e. search begun-kept!
+
+pub begin-spec : {M : Type 1} → statement M
+begin-spec =
     tie.close
     (tie.spec
-    blank-requires
-    slice-aggregate-stamp
     stamp-requires
+    same-length
     returns
     cast-at
     mul-at
     add-at
-    slice-aggregate-copy
     add-copy
     sub-copy
     part-copy-start
     part-copy-end
     copy-requires
+    same-length-2
     returns-2)

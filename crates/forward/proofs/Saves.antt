@@ -3,25 +3,24 @@ use Prim.Native.Nat.{ℕ, suc, _+_, _-_, _≤_}
 use native.Mathlib.Omega.{arith}
 use mathlib.Core.Path.{_≡_, refl, sym, ap, _∙_, subst}
 use mathlib.Core.Bool.{true}
-use mathlib.Core.List.{List, [], _∷_, _++_, map, append-nil}
-use mathlib.Core.Option.{Option, some, none}
+use mathlib.Core.List.{List, [], _∷_, _++_}
+use mathlib.Core.Option.{Option, some}
 use borrow.Author.Tests.{leb-true}
-use lib.ListN.{length, take, length-append, length-map}
+use lib.ListN.{length, length-append, length-map}
 use Rattle.field.specs.Bytes.{Bytes, put, most4}
 use Rattle.log.specs.Record.{saves, Image, Rec, LG, LE, size, sizes, encode}
 use Rattle.log.specs.Log.{Open, State, imagesOf, after, Log, readLog, atEnd}
-use Rattle.log.specs.Valid.{Logs, Bears, Follows, logs, Fits, Good}
+use Rattle.log.specs.Valid.{Follows, logs, Fits}
 use Rattle.log.proofs.Sound.{Imaged, no-image, an-image, Keeps, Waits, waits-save, sound-atEnd}
 use Rattle.log.proofs.Read.{readLog-facts}
 use Rattle.unit.specs.Next.{apply}
-use Rattle.saving.specs.Save.{Sheet}
-use Rattle.saving.specs.Rest.{Rest, refuses, lacks, imageOf, logging, resumed}
+use Rattle.saving.specs.Rest.{Rest, refuses, lacks, imageOf}
 use Rattle.saving.proofs.Resumes.{length-logging}
 use Rattle.saved.specs.Units.{Enters}
 use Rattle.saved.proofs.Entered.{save-enters}
 use Rattle.saved.proofs.Lacking.{Lacked, lacked, first-logs, save-saves}
-use Rattle.store.specs.Calls.{Went, stopped, went, andThen, logged, logLength, appendAll, conclude, lackedBy}
-use Rattle.forward.proofs.Grows.{stopped-not, Gave, given-went, need-went, went-state, went-work, went-log, Grown, grows}
+use Rattle.store.specs.Calls.{went, andThen, logLength, appendAll, conclude, lackedBy}
+use Rattle.forward.proofs.Grows.{stopped-not, given-went, need-went, went-state, went-work, went-log, Grown, grows}
 
 -- ---- what the tests have shown
 

@@ -1,9 +1,9 @@
 -- Where the generic half says that a begin or a step goes on, the call is accepted and leaves just that; so an uncut run in the generic
 -- sense is a run of calls. Assumes nothing but the unit laws, which are handed in.
-use Prim.Native.Nat.{ℕ, _+_, _-_, _≤_}
+use Prim.Native.Nat.{ℕ, _+_, _≤_}
 use native.Mathlib.Omega.{arith}
 use mathlib.Core.Path.{_≡_, refl, sym, ap, ap₂, _∙_, subst, subst₂}
-use mathlib.Core.Logic.{_⊎_, inl, inr}
+use mathlib.Core.Logic.{inl, inr}
 use mathlib.Core.Bool.{true}
 use mathlib.Core.List.{List, [], _∷_, _++_}
 use mathlib.Core.Option.{Option, some, none, Option·some-injective}
@@ -17,12 +17,11 @@ use Rattle.page.proofs.Pages.{formed-pages}
 use Rattle.log.specs.Record.{Check, Begin, Rec, LB, size, encode, sizes}
 use Rattle.log.specs.Write.{saveOf}
 use Rattle.log.specs.Plan.{plan}
-use Rattle.log.specs.Log.{Open}
 use Rattle.log.specs.Valid.{Good}
 use Rattle.log.proofs.Sound.{sound-atEnd}
 use Rattle.unit.specs.Choice.{compactUnit, orderUnit}
 use Rattle.unit.specs.Next.{apply, room}
-use Rattle.saving.specs.Rest.{Rest, lacks, restOf}
+use Rattle.saving.specs.Rest.{lacks, restOf}
 use Rattle.store.specs.Calls.{Lent, lent, Left, left, refused, begunWith, begun, beginWith, deleting, savingAll, beginSave, logLength}
 use Rattle.store.specs.Calls as Calls
 use Rattle.store.proofs.Chain.{not-there}
@@ -31,7 +30,7 @@ use Rattle.replay.specs.Store.{Formed, Settled}
 use Rattle.replay.specs.Store as Replay
 use Rattle.replay.specs.Laws.{UnitLaws}
 use Rattle.replay.proofs.Theorem.{ran-settled}
-use Rattle.promise.specs.Parts.{logOf, stateOf, store, asked, Carries, to-put, to-delete, Wants, tidying, saving, Begins}
+use Rattle.promise.specs.Parts.{logOf, stateOf, store, asked, to-put, to-delete, Wants, tidying, saving, Begins}
 use Rattle.promise.specs.Promise.{Uncut}
 use Rattle.promise.proofs.OnPages.{page-laws}
 use Rattle.promise.proofs.Image.{image, put-image, at-grown}

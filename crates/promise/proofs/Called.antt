@@ -1,5 +1,5 @@
 -- Every call on a live state leaves a live state, whether it is accepted or refused. Assumes nothing but the unit laws, which are handed in.
-use Prim.Native.Nat.{ℕ, zero, suc, _+_, _-_, _≤_}
+use Prim.Native.Nat.{ℕ, zero, suc, _+_, _≤_}
 use native.Mathlib.Omega.{arith}
 use mathlib.Core.Path.{_≡_, refl, sym, ap, _∙_, subst, subst₂}
 use mathlib.Core.Logic.{inl, inr}
@@ -29,7 +29,7 @@ use Rattle.unit.specs.Choice.{orderUnit}
 use Rattle.unit.specs.Next.{targets, apply, targetOf}
 use Rattle.unit.proofs.Pagewise.{apply-stays}
 use Rattle.unit.proofs.Places.{Keeping, one-more, StepKeeps, OpenKeeps, end-keeps}
-use Rattle.saving.specs.Rest.{Rest, refuses, lacks, restOf}
+use Rattle.saving.specs.Rest.{Rest, refuses, lacks}
 use Rattle.store.specs.Calls.{Lent, lent, Left, left, refused, logLength, stopped, formedAt, stepped, begunWith, begun, beginWith, deleting, savingAll, beginSave, checkpointed, answered}
 use Rattle.store.specs.Calls as Calls
 use Rattle.forward.specs.Appends.{appendOpen}

@@ -22,7 +22,7 @@ use Rattle.log.proofs.Sound.{Waits, waits-open}
 use Rattle.log.proofs.Append.{atEnd-grown}
 use Rattle.unit.specs.Next.{apply, repeat, repeatAll, targetOf, pageOf, nextRec, room}
 use Rattle.saving.specs.Rest.{Rest, refuses, lacks, logging}
-use Rattle.saved.proofs.Lacking.{Lacked, lacked}
+use Rattle.saved.proofs.Lacking.{lacked}
 use Rattle.resuming.proofs.Walked.{done-end}
 use Rattle.store.specs.Calls.{Went, stopped, went, andThen, didOf, append, appendAll, conclude, lackedBy, logLength}
 use Rattle.replay.specs.Store.{run}

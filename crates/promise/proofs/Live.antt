@@ -1,7 +1,7 @@
 -- A state with work pages that a history leads to, as bytes, and what every call finds in it. `Live` is such a state, `Lost` one whose
 -- work pages may be gone, `Ran` one whose work pages and log are those of an uncut run, which is all that a begin or a step asks. Assumes nothing
 -- but the unit laws, which are handed in.
-use Prim.Native.Nat.{ℕ, _+_, _-_, _≤_}
+use Prim.Native.Nat.{ℕ, _+_, _≤_}
 use native.Mathlib.Omega.{arith}
 use mathlib.Core.Path.{_≡_, sym, ap, _∙_}
 use mathlib.Core.Bool.{true}

@@ -1,10 +1,10 @@
 -- A put or delete whose pages are worked out can be finished in the sense of the generic half: the LGs that it lacks one after the other, none of
 -- which changes a page, then its LE. Assumes nothing.
-use Prim.Native.Nat.{ℕ, suc, _+_, _-_, _≤_}
+use Prim.Native.Nat.{ℕ, _+_, _-_, _≤_}
 use native.Mathlib.Omega.{arith}
 use mathlib.Core.Path.{_≡_, refl, sym, ap, _∙_, subst}
 use mathlib.Core.Bool.{true}
-use mathlib.Core.List.{List, [], _∷_, _++_, map, append-nil, append-assoc}
+use mathlib.Core.List.{List, [], _∷_, _++_, append-nil, append-assoc}
 use mathlib.Core.Option.{Option, some, none}
 use lib.ListN.{length, length-append, length-map}
 use borrow.Author.Tests.{le-leb}
@@ -13,7 +13,7 @@ use Rattle.field.specs.Bytes.{most4}
 use Rattle.field.proofs.Test.{both-intro, pick-true, when-true}
 use Rattle.page.specs.Pages.{pages}
 use Rattle.log.specs.Record.{Check, Begin, saves, Image, Rec, LG, LE, size, sizes}
-use Rattle.log.specs.Log.{Open, State, imagesOf, noting, openedBy, after}
+use Rattle.log.specs.Log.{Open, State, imagesOf, noting, openedBy}
 use Rattle.log.specs.Valid.{Logs, Bears, Follows, logs, Fits}
 use Rattle.log.proofs.Filed.{images-more}
 use Rattle.log.proofs.State.{number-atEnd}

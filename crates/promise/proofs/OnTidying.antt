@@ -1,6 +1,6 @@
 -- A unit that tidies and can be carried out (crate `tidy`) can be finished in the sense of the generic half, its records one after the other in
 -- the log. Assumes nothing.
-use Prim.Native.Nat.{ℕ, suc, _+_, _≤_}
+use Prim.Native.Nat.{ℕ, _+_, _≤_}
 use native.Mathlib.Omega.{arith}
 use mathlib.Core.Path.{_≡_, refl, sym, ap, _∙_, subst}
 use mathlib.Core.Bool.{true, false}
@@ -12,13 +12,13 @@ use Rattle.field.specs.Test.{bind}
 use Rattle.field.specs.Bytes.{Bytes, most4}
 use Rattle.field.proofs.Test.{both-intro, pick-false, bind-intro, when-true}
 use Rattle.page.specs.Pages.{pages}
-use Rattle.log.specs.Record.{Check, Begin, saves, Rec, LB, size}
+use Rattle.log.specs.Record.{Check, Begin, saves, Rec, LB}
 use Rattle.log.specs.Plan.{Step, close, plan}
 use Rattle.log.specs.Log.{Open, State, going, openedBy}
-use Rattle.log.specs.Valid.{Does, does-out, does-in, does-point, does-close, Follows, goes, Fits, Good}
+use Rattle.log.specs.Valid.{Does, does-out, does-in, does-point, does-close, Follows, goes, Fits}
 use Rattle.log.proofs.State.{number-atEnd}
 use Rattle.log.proofs.Valid.{does-bears}
-use Rattle.log.proofs.Plan.{Works, works-out, works-in, works-point, Ending, ending-rest, plan-ending}
+use Rattle.log.proofs.Plan.{works-out, works-in, works-point, Ending, ending-rest, plan-ending}
 use Rattle.log.proofs.Held.{ending-cons}
 use Rattle.log.proofs.Sound.{Waits, waits-open, sound-atEnd}
 use Rattle.tree.specs.Tree.{wellFormed, allRecords}

@@ -1,11 +1,11 @@
 -- The unit laws of the generic half: whatever a begin call wants, a unit that tidies, a put or a delete, can be finished; and a checkpoint leaves
 -- what the next run can start from. Assumes nothing but that a chosen unit can be carried out, which is handed in.
-use Prim.Native.Nat.{ℕ, suc, _+_, _-_, _≤_}
+use Prim.Native.Nat.{ℕ, _+_, _≤_}
 use native.Mathlib.Omega.{arith}
 use mathlib.Core.Path.{_≡_, refl, sym, ap, _∙_, subst, subst₂}
 use mathlib.Core.Bool.{Bool, true, false}
 use mathlib.Core.Logic.{inl, inr}
-use mathlib.Core.List.{List, [], _∷_, _++_, map}
+use mathlib.Core.List.{List, [], _∷_, _++_}
 use mathlib.Core.Option.{Option, some, none, Option·some-injective}
 use lib.ListN.{length, getD, length-append, length-map}
 use lib.Dec.{eqb}
@@ -44,7 +44,7 @@ use Rattle.putting.proofs.Puts.{deleting-long!}
 use Rattle.replay.specs.Store.{Settled}
 use Rattle.replay.specs.Laws.{Able, UnitLaws}
 use Rattle.promise.specs.Promise.{savedBy}
-use Rattle.promise.specs.Parts.{logOf, stateOf, store, asked, Chooses, Carries, to-put, to-delete, Wants, tidying, saving, Begins, Checks}
+use Rattle.promise.specs.Parts.{logOf, stateOf, store, asked, Chooses, Carries, to-put, to-delete, Wants, tidying, saving, Checks}
 use Rattle.promise.proofs.Image.{Stored, at-grown, opened-grown, stored-grown}
 use Rattle.promise.proofs.Saved.{saved-begun, saved-tidies, saved-saves}
 use Rattle.promise.proofs.Forward.{none-not, open-none}

@@ -4,7 +4,7 @@ use native.Mathlib.Omega.{arith}
 use mathlib.Core.Path.{_≡_, refl, ap, _∙_}
 use mathlib.Core.Bool.{Bool, true, false}
 use mathlib.Core.List.{List, [], _∷_, _++_}
-use mathlib.Core.Option.{Option, some}
+use mathlib.Core.Option.{some}
 use lib.ListN.{getD}
 use lib.Dec.{eqb}
 use borrow.Author.Tests.{eq-eqb, ne-eqb, eqb-false, leb-true, leb-false}
@@ -13,7 +13,7 @@ use Rattle.field.proofs.Test.{pick-true, pick-false}
 use Rattle.page.specs.Page.{keyOf}
 use Rattle.log.specs.Record.{Begin, saves, Rec, LB, LO, LI, LM, LG, LE}
 use Rattle.log.specs.Log.{Open, beginOk}
-use Rattle.log.specs.Valid.{Does, does-out, does-in, does-point, does-close, logs-image, logs-end, Follows, goes, logs}
+use Rattle.log.specs.Valid.{does-out, does-in, does-point, does-close, logs-image, logs-end, Follows, goes, logs}
 use Rattle.log.proofs.Begin.{beginOk-limits}
 use Rattle.saving.specs.Save.{withRecord, withoutKey}
 use Rattle.promise.specs.Promise.{savedOne, savedBy}

@@ -1,6 +1,6 @@
 -- Demand 3, over bytes and over the calls' own definitions. `History` holds of every state that calls and power cuts can lead to;
 -- `Kept` is what is promised of recovery in such a state. What is assumed of the chip stands in `Cut` alone. Assumes nothing.
-use Prim.Native.Nat.{ℕ, _+_, _-_, _/_, _≤_}
+use Prim.Native.Nat.{ℕ, _-_, _/_, _≤_}
 use mathlib.Core.Path.{_≡_}
 use mathlib.Core.Bool.{Bool, true, false}
 use mathlib.Core.List.{List, [], _∷_, _++_}

@@ -4,7 +4,6 @@ use native.Mathlib.Omega.{arith}
 use mathlib.Core.Path.{_≡_, refl, sym, ap, _∙_}
 use mathlib.Core.Bool.{Bool, true, false, not}
 use mathlib.Core.List.{List, [], _∷_}
-use mathlib.Core.Option.{Option, some, none}
 use borrow.Author.Tests.{eq-eqb, ne-eqb}
 use lib.Dec.{eqb}
 use lib.ListN.{length, getD}
@@ -13,7 +12,7 @@ use Rattle.field.specs.Bytes.{put, zeroes, bytes4, Bytes, le2}
 use Rattle.field.proofs.Test.{need-true, need-false}
 use Rattle.page.specs.Page.{ascend, ascendRecords}
 use Rattle.page.proofs.Order.{First, ascend-facts, ascend-of}
-use Rattle.log.specs.Record.{Begin, Rec, LB, begin, image, end, lengthOf, kindOf, carried, size, sizes, encode}
+use Rattle.log.specs.Record.{Begin, Rec, LB, image, end, lengthOf, kindOf, carried, size, sizes, encode}
 use Rattle.log.specs.Log.{State, imagesOf, Log, atEnd}
 use Rattle.log.specs.Scan.{shown, scanned}
 use Rattle.log.specs.declared.scan.Scan.{Scan}

@@ -1,6 +1,6 @@
 -- Positions in a well-formed tree: every test of a step says how many rows there are, and what is left at the position that a step comes to is
 -- what was left without its first record. Assumes nothing.
-use Prim.Native.Nat.{ℕ, _+_, _-_, _≤_, _<_}
+use Prim.Native.Nat.{ℕ, _+_, _≤_, _<_}
 use native.Mathlib.Omega.{arith}
 use mathlib.Core.Path.{_≡_, refl, sym, _∙_}
 use mathlib.Core.Bool.{true}

@@ -5,16 +5,16 @@ use native.Mathlib.Nat.{not-suc-le-zero}
 use native.Mathlib.Numerals.{add-one}
 use native.Mathlib.Omega.{arith}
 use mathlib.Core.Path.{_≡_, refl, sym, ap, ap₂, _∙_}
-use mathlib.Core.Bool.{Bool, true, false, not, false≢true}
+use mathlib.Core.Bool.{Bool, true, false, not}
 use mathlib.Core.List.{List, [], _∷_, _++_, map, append-nil}
 use lib.ListN.{length, take, drop, getD, length-append, length-drop, length-map, drop-of-length-le}
 use lib.Seq.{drop-drop}
 use lib.Dec.{eqb}
 use borrow.Rule.Slice.PartAt.{part-to-end}
-use borrow.Author.Tests.{eq-eqb, ne-eqb, eqb-true, not-true, not-false}
+use borrow.Author.Tests.{eq-eqb, ne-eqb, not-true, not-false}
 use Rattle.field.specs.Test.{both, all}
 use Rattle.field.specs.Bytes.{part, Bytes, same, le2}
-use Rattle.field.proofs.Test.{both-true, both-false, both-end, all-head, all-tail}
+use Rattle.field.proofs.Test.{both-true, both-false, both-end}
 use Rattle.field.proofs.Same.{same-eq}
 use Rattle.field.proofs.Number.{le4-small}
 use Rattle.field.proofs.Part.{length-part, lent-part}

@@ -20,10 +20,10 @@ use Rattle.log.specs.Log.{carriesOk, beginOk, allBear}
 use Rattle.log.specs.Valid.{Logs, Bears}
 use Rattle.log.proofs.Begin.{beginOk-saved, begin-carries}
 use Rattle.saving.specs.Save.{Sheet, Changed, cannot, sheets, withRecord, withoutKey, putSheets, deleteSheets}
-use Rattle.saving.specs.Rest.{imageOf, sheetsOf, Rest, refuses, lacks, begins, logging, imaging, saving, resumed}
+use Rattle.saving.specs.Rest.{imageOf, sheetsOf, lacks, begins, logging, imaging, saving, resumed}
 use Rattle.saving.proofs.Resumes.{begins-split, lacks-same, refuses-not, need-lacks}
 use Rattle.tidy.specs.Tidy.{Tidy}
-use Rattle.saved.specs.Saved.{Saves, Row, RowOf}
+use Rattle.saved.specs.Saved.{Saves, RowOf}
 use Rattle.saved.specs.Units.{Enters}
 use Rattle.saved.proofs.Put.{put-saves}
 use Rattle.saved.proofs.Delete.{delete-saves}

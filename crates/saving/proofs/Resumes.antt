@@ -7,9 +7,8 @@ use mathlib.Core.Bool.{Bool, true, false, false≢true}
 use mathlib.Core.List.{List, [], _∷_, _++_, map}
 use borrow.Author.Tests.{eq-eqb, eqb-true}
 use lib.ListN.{length, drop, length-drop, length-map}
-use lib.Dec.{eqb}
-use Rattle.field.specs.Test.{both, all, need}
-use Rattle.field.specs.Bytes.{same, most4}
+use Rattle.field.specs.Test.{need}
+use Rattle.field.specs.Bytes.{most4}
 use Rattle.field.proofs.Test.{all-head, all-tail, all-intro, all-nil, need-true}
 use Rattle.field.proofs.Same.{same-eq, same-refl}
 use Rattle.page.specs.Page.{number}

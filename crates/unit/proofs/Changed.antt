@@ -1,6 +1,6 @@
 -- What a record leaves of a page that it changes: a page of 256 bytes, in form where the record stands in a log in form, stamped with
 -- the record's number. Assumes nothing.
-use Prim.Native.Nat.{ℕ, _-_, _≤_, _<_}
+use Prim.Native.Nat.{ℕ, _≤_, _<_}
 use native.Mathlib.Omega.{arith}
 use mathlib.Core.Path.{_≡_, refl, sym, _∙_}
 use mathlib.Core.Logic.{_⊎_, inl, inr, ⊎-elim}

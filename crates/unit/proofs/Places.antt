@@ -1,6 +1,6 @@
 -- Steps and records keep to the regions: an LO and an LI change a leaf page, an LM a base page, and it points to a leaf page or removes.
 -- So it is of every step that a begin record in form gives, and of every record of a log in form. Assumes nothing.
-use Prim.Native.Nat.{ℕ, zero, suc, _+_, _≤_, _<_}
+use Prim.Native.Nat.{ℕ, zero, suc, _≤_, _<_}
 use native.Mathlib.Omega.{arith}
 use mathlib.Core.Path.{_≡_, refl, ap}
 use mathlib.Core.Logic.{_⊎_, inl, inr}

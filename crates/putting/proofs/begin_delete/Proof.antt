@@ -1,5 +1,5 @@
 -- `putting::begin_delete` meets its contract: a law for each of its answers. Assumes nothing.
-use mathlib.Core.Path.{refl, sym, _∙_}
+use mathlib.Core.Path.{sym, _∙_}
 use mathlib.Core.List.{[]}
 use borrow.Author.Tests.{not-true, not-false}
 use Rattle.starting.proofs.Asked.{begin-work, begin-log, begin-form, begin-inside}

@@ -1,6 +1,6 @@
 -- `stepping::step` meets its contract: a law for each of its answers. Assumes nothing.
 use native.Mathlib.Omega.{arith}
-use mathlib.Core.Path.{_≡_, sym, _∙_}
+use mathlib.Core.Path.{sym, _∙_}
 use borrow.Author.Tests.{not-true, not-false}
 use Rattle.log.proofs.Toward.{turned-ok}
 use Rattle.stepping.proofs.Steps.{step-no-work, step-no-log, step-no-form, step-no-unit, Past, past-opened, past-ends}

@@ -184,7 +184,11 @@ static size_t place_of(const struct held *h, uint32_t key)
     return at;
 }
 
-static bool has(const struct held *h, uint32_t key) { return place_of(h, key) < h->count && key_of(h->records + UHTLIGHT_RECORD * place_of(h, key)) == key; }
+static bool has(const struct held *h, uint32_t key)
+{
+    size_t at = place_of(h, key);
+    return at < h->count && key_of(h->records + UHTLIGHT_RECORD * at) == key;
+}
 
 static void with_record(struct held *h, const uint8_t *record)
 {

@@ -40,7 +40,7 @@ use Rattle.saved.proofs.Lacking.{Lacked, lacked, save-saves}
 use Rattle.tidy.specs.Tidy.{Tidy, Keeps}
 use Rattle.store.specs.Calls.{logLength, deleting, checkpointed}
 use Rattle.store.proofs.Chosen.{saves-put, saves-delete, put-ok, delete-ok}
-use Rattle.putting.proofs.Puts.{deleting-long!}
+use Rattle.putting.proofs.Puts.{deleting-long! }
 use Rattle.replay.specs.Store.{Settled}
 use Rattle.replay.specs.Laws.{Able, UnitLaws}
 use Rattle.promise.specs.Promise.{savedBy}

@@ -160,9 +160,11 @@ woken-live d c b e r =
     let g : Settled store asked (d .store) (d .store) c [] = settled-bare (d .store) c n (b .store) st (f .form) (f .low) (f .well) in
     let y : Left = left 0 (0 ∷ []) (lent 24 24 (d .store) (d .store) (image c []) (d .bytes)) in
     let z : Calls.recover d ≡ y =
-    f .is ∙ ap₂ (λ (a : ℕ) (l : List ℕ). left 0 (0 ∷ []) (lent a a (d .store) (d .store) l (d .bytes))) (bare-at c) i in
-    (subst (λ (x : Left). Live (allRecords (pages (x .now .work))) (x .now .work) (x .now)) (sym z)
-    (live-bare (allRecords (pages (d .store))) (d .store) (d .bytes) c (b .bytes) g refl), ap (λ (x : Left). x .now .forced) z)
+    f .is ∙ ap₂ (λ (a : ℕ) (l : List ℕ). left 0 (0 ∷ []) (lent a a (d .store) (d .store) l (d .bytes))) (bare-at c) i in (
+      subst (λ (x : Left). Live (allRecords (pages (x .now .work))) (x .now .work) (x .now)) (sym z)
+          (live-bare (allRecords (pages (d .store))) (d .store) (d .bytes) c (b .bytes) g refl),
+      ap (λ (x : Left). x .now .forced) z,
+    )
 
 -- ---- a finished build
 
@@ -235,6 +237,7 @@ built-live f g d b e =
     (x .leaves) (x .bases) in
     let s : Settled store asked (layout f g rows) (layout f g rows) newest [] =
     settled-bare (layout f g rows) newest (l .whole) (l .bytes) newest-stored (l .form) (low-zero _ (layout f g rows) (l .stamps)) (l .tree) in
-    let z = x .is ∙ ap (λ (i : List ℕ). left 0 [] (lent 24 24 (layout f g rows) (layout f g rows) i (d .bytes))) (sym (image-bare newest)) in
-    (subst (λ (y : Left). Live rows (y .now .work) (y .now)) (sym z) (live-bare rows (layout f g rows) (d .bytes) newest b s (l .holds)),
-    sym (ap (λ (y : Left). y .now .forced) z))
+    let z = x .is ∙ ap (λ (i : List ℕ). left 0 [] (lent 24 24 (layout f g rows) (layout f g rows) i (d .bytes))) (sym (image-bare newest)) in (
+      subst (λ (y : Left). Live rows (y .now .work) (y .now)) (sym z) (live-bare rows (layout f g rows) (d .bytes) newest b s (l .holds)),
+      sym (ap (λ (y : Left). y .now .forced) z),
+    )

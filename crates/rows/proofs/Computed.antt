@@ -24,7 +24,7 @@ use Rattle.unit.specs.Next.{targetOf, pageOf, keyBefore, isOther, lowestTo, ski
 use Rattle.saving.specs.Save.{lesser, greater, withRecord, withoutKey, before, through, behind, drawn, insert, inOrder, freeLeaf, putFirst, splitLeaf, putInto}
 use Rattle.saving.specs.Save.{baseFor, leafFor, putSheets, lowered, closed, unite, rightLowered, emptyOut, deleteFrom, deleteSheets}
 use Rattle.saving.specs.Rest.{imageOf, sheetsOf, begins, logging, imaging, saving, resumed}
-use Rattle.store.specs.Calls.{refused, pagesSized, logSized, threeSized, twoSized, known, newLog, build, andThen, didOf, todoOf, append, appendAll}
+use Rattle.store.specs.Calls.{refused, pagesSized, logSized, threeSized, twoSized, known, newLog, build, andThen, didOf, append, appendAll}
 use Rattle.store.specs.Calls.{conclude, restLong, lackedBy, formedAt}
 use Rattle.store.specs.Calls.{stepWith, stepOpen, stepped, step, zeroed, noneNewer, finish, finishOpen, recovered, recover, begunWith, begun, beginWith}
 use Rattle.store.specs.Calls.{beginCompact, beginOrder, deleting, savingAll, beginSave, beginPut, beginDelete}
@@ -45,7 +45,7 @@ unfolding both all pick need given when bind there part put zeroes allZero same 
     repeat repeatAll targetOf pageOf keyBefore isOther lowestTo skipped nextRec stepSize room lesser greater withRecord withoutKey before
     through behind drawn insert inOrder freeLeaf putFirst splitLeaf putInto baseFor leafFor putSheets lowered closed unite rightLowered
     emptyOut deleteFrom deleteSheets imageOf sheetsOf begins logging imaging saving resumed refused pagesSized logSized threeSized twoSized
-    known newLog build andThen didOf todoOf append appendAll conclude restLong lackedBy formedAt stepWith stepOpen stepped step zeroed
+    known newLog build andThen didOf append appendAll conclude restLong lackedBy formedAt stepWith stepOpen stepped step zeroed
     noneNewer finish finishOpen recovered recover begunWith begun beginWith beginCompact beginOrder deleting savingAll beginSave beginPut
     beginDelete flush force checkpointed checkpoint answered find list
 computed = 0

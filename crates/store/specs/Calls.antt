@@ -108,10 +108,6 @@ unfoldable pub didOf : Option Open → List Rec
 didOf none = []
 didOf (some o) = o .did
 
-unfoldable pub todoOf : Option Open → List Step
-todoOf none = []
-todoOf (some o) = o .todo
-
 -- one record appended, the pages being w after it: the log's state then, and the record's bytes put at the log's end
 abbrev pub logged : (s : State) → Rec → (w l : List ℕ) → Went
 logged s r w l = went (after s r) w (put (s .at) (encode (s .number + 1) r) l)

@@ -2,7 +2,7 @@
 use Prim.Native.Nat.{ℕ, _+_, _-_, _*_, _≤_, _<_}
 use native.Mathlib.Omega.{arith}
 use mathlib.Core.Path.{_≡_, refl, sym, ap, _∙_}
-use mathlib.Core.Bool.{Bool, true, false, not}
+use mathlib.Core.Bool.{Bool, true, false, not, false≢true}
 use mathlib.Core.List.{List, [], _∷_, _++_, append-nil}
 use lib.ListN.{length, take, drop, getD, length-drop}
 use lib.Seq.{drop-drop, drop-cons}
@@ -12,7 +12,7 @@ use Rattle.field.specs.Test.{both, all, pick}
 use Rattle.field.specs.Bytes.{part, put, zeroes, allZero, starts, Bytes, le2, bytes2, bytes4, most4}
 use Rattle.field.proofs.Test.{pick-true, both-true, both-false, both-end}
 use Rattle.field.proofs.Number.{bytes2-le2, length-bytes2}
-use Rattle.field.proofs.Part.{part-drop, length-part}
+use Rattle.field.proofs.Part.{split, part-drop, length-part}
 use Rattle.field.proofs.Byte.{bytes-drop}
 use Rattle.field.proofs.Gather.{zero-cut, zero-pair}
 use Rattle.page.specs.Page.{joined}
@@ -250,22 +250,25 @@ module _ (m : List ℕ) where
   begin-long u = ap (lengthOf begin) (one-borne (savesAt m) (part 44 16 m))
 
   -- there is room for its fields, or even for the record that it carries
-  pub whole : (k long : ℕ) → 44 ≤ length m → k ≡ pick (savesAt m) 1 0 → long ≡ lengthOf (kindAt 1) k → long ≤ length m → Whole m
-  unfolding kindAt kinds
-  whole k long h e q r = record { fields = h; record-too = λ v. let z : k ≡ 1 = e ∙ pick-true _ _ _ v in rw (q, z) at r }
+  pub whole-tidies : 44 ≤ length m → savesAt m ≡ false → Whole m
+  whole-tidies h v = record { fields = h; record-too = λ w. absurd (false≢true (sym v ∙ w)) }
+
+  pub whole-saves : 60 ≤ length m → Whole m
+  unfolding lengthOf
+  whole-saves h = record { fields = omega (arith, h); record-too = λ v. h }
+
+  save-short : (t : Bool) → savesAt m ≡ t → (44 ≤ length m → savesAt m ≡ true) → length m < 60 → length m < lengthOf begin (pick t 1 0)
+  unfolding lengthOf pick
+  save-short true v f h = h
+  save-short false v f h = split (length m) 44 (λ q. q) (λ q. absurd (false≢true (sym v ∙ f q)))
 
   module _ (n u : ℕ) where
-    pub begin-short! : length m < 44 → false ≡ standsBegin n u m
+    -- where a put's or a delete's would be, there is no room for it
+    pub save-cut! : (44 ≤ length m → savesAt m ≡ true) → length m < 60 → false ≡ standsBegin n u m
     unfolding standsBegin stands all
-    begin-short! h =
-        let k : length m < size (LB (readBegin u m)) = rw (begin-long u) (unfold lengthOf in omega arith) in
+    save-cut! f h =
+        let k : length m < size (LB (readBegin u m)) = rw (begin-long u) (save-short (savesAt m) refl f h) in
         sym (both-none _ _ (both-none (leb n most4) _ (both-false _ _ (lt-leb (size (LB (readBegin u m))) (length m) k))))
-
-    pub begin-cut! : (k long : ℕ) → k ≡ pick (savesAt m) 1 0 → long ≡ lengthOf (kindAt 1) k → length m < long → false ≡ standsBegin n u m
-    unfolding standsBegin stands all kindAt kinds
-    begin-cut! k long e q h =
-        let z : length m < size (LB (readBegin u m)) = rw (begin-long u) (rw (q, e) at h) in
-        sym (both-none _ _ (both-none (leb n most4) _ (both-false _ _ (lt-leb (size (LB (readBegin u m))) (length m) z))))
 
     module _ (ku : u ≤ most4) where
       pub begin-bad! : (z : Bool) → z ≡ beginOk (readBegin 0 m) → not z ≡ true → false ≡ standsBegin n u m

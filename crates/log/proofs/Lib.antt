@@ -16,6 +16,7 @@ pub mod Signs
 pub mod Held
 pub mod Images
 pub mod Laid
+pub mod Tidies
 pub mod Pass
 pub mod Stand
 pub mod State

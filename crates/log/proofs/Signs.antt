@@ -10,7 +10,7 @@ use lib.Dec.{eqb}
 use borrow.Author.Tests.{eq-eqb, ne-eqb, leb-true}
 use Rattle.field.specs.Test.{pick}
 use Rattle.field.specs.Bytes.{starts, le2, le4, most4}
-use Rattle.field.proofs.Test.{all-head, all-tail, both-1, both-2, pick-true, pick-false}
+use Rattle.field.proofs.Test.{all-head, all-tail, both-1, both-2, pick-true, pick-false, pick-either}
 use Rattle.field.proofs.Same.{starts-eq}
 use Rattle.page.specs.Page.{rowsOf}
 use Rattle.log.specs.Record.{Kind, Image, Rec, LM, LG, LE, begin, out, into, modify, image, typeAt, lengthOf, kindOf, carried, size, header, body, previous, encode}
@@ -18,7 +18,7 @@ use Rattle.log.specs.Write.{paged, inBytes}
 use Rattle.log.specs.Plan.{Step, takeOut, bringIn, point, close, plan}
 use Rattle.log.specs.Log.{largest, beginOk, savesAt, readBegin, readImage}
 use Rattle.log.specs.Stand.{stands, standsIn, standsModify, standsOut, standsBegin, standsImage, standsLast}
-use Rattle.log.specs.Scan.{lost, begun, went, ended, stepped, imagesOn, saved, turned}
+use Rattle.log.specs.Scan.{lost, begun, went, bareLong, bareKey, ended, stepped, imagesOn, saved, turned}
 use Rattle.log.specs.Carries.{Carries}
 use Rattle.log.specs.declared.scan.Walk.{Walk}
 use Rattle.log.proofs.Ways.{stands-room, modify-room, in-room, begin-room, out-room, out-rows}
@@ -82,11 +82,32 @@ pub record Way (g : ℕ) (w : Walk) (m : List ℕ) (t : Bool) (y : Walk) : Type 
   pub number : w .number .0 < 4294967295
   pub room : 16 ≤ length m
   pub takes : g ≡ 79 → Carries m × (y ≡ went w (lengthOf out (le2 m 16)) (le2 m 16) 0 (largest (w .moved) (rowsOf 16 (le2 m 16) (drop 20 m))))
-  pub brings : g ≡ 73 → (24 ≤ length m) × (y ≡ went w (lengthOf into 0) 0 0 (w .moved))
-  pub points : g ≡ 77 → (28 ≤ length m) × (y ≡ went w (lengthOf modify 0) 0 (le4 m 20) (w .moved))
-  pub draws : g ≡ 71 → (272 ≤ length m) × (y ≡ went w (lengthOf image 1) 0 0 (w .moved))
   pub begins : g ≡ 66 → (lengthOf begin (pick (savesAt m) 1 0) ≤ length m) × (w .unit .0 < 4294967295) × (y ≡ begun w (pick (savesAt m) 1 0))
-  pub ends : (g ≡ 79 → ⊥) → (g ≡ 73 → ⊥) → (g ≡ 77 → ⊥) → (g ≡ 71 → ⊥) → (g ≡ 66 → ⊥) → (w .opened ≡ true) × (y ≡ ended w t)
+  pub ends : g ≡ 69 → (w .opened ≡ true) × (y ≡ ended w t)
+  -- an LI, LM or LG
+  pub others : (g ≡ 79 → ⊥) → (g ≡ 66 → ⊥) → (g ≡ 69 → ⊥) → (bareLong g ≤ length m) × (y ≡ went w (bareLong g) 0 (bareKey g m) (w .moved))
+
+bare-in : (g : ℕ) (m : List ℕ) → g ≡ 73 → (bareLong g ≡ lengthOf into 0) × (bareKey g m ≡ 0)
+unfolding bareLong bareKey lengthOf pick
+bare-in g m e = rw e (refl, refl)
+
+pub bare-point : (g : ℕ) (m : List ℕ) → g ≡ 77 → (bareLong g ≡ lengthOf modify 0) × (bareKey g m ≡ le4 m 20)
+unfolding bareLong bareKey lengthOf pick
+bare-point g m e = rw e (refl, refl)
+
+bare-image : (g : ℕ) (m : List ℕ) → g ≡ 71 → (bareLong g ≡ lengthOf image 1) × (bareKey g m ≡ 0)
+unfolding bareLong bareKey lengthOf pick
+bare-image g m e = rw e (refl, refl)
+
+-- they have bytes
+pub bare-some : (g : ℕ) → 1 ≤ bareLong g
+unfolding bareLong lengthOf
+bare-some g = pick-either (λ (n : ℕ). 1 ≤ n) _ _ _ (omega arith) (pick-either (λ (n : ℕ). 1 ≤ n) _ _ _ (omega arith) (omega arith))
+
+-- gone past by its length and its key
+bare-went : (g long key : ℕ) (w : Walk) (m : List ℕ) (y : Walk) → (bareLong g ≡ long) × (bareKey g m ≡ key) → long ≤ length m → y ≡ went w long 0 key (w .moved)
+    → (bareLong g ≤ length m) × (y ≡ went w (bareLong g) 0 (bareKey g m) (w .moved))
+bare-went g long key w m y e h q = (rw (e .0) h, q ∙ rw (e .0, e .1))
 
 -- a sign is not another
 other : {A : Type 0} (a b g : ℕ) → eqb a b ≡ false → g ≡ a → g ≡ b → A
@@ -111,15 +132,14 @@ module _ (w : Walk) (m : List ℕ) (t : Bool) where
         number = omega (arith, n);
         room = omega (arith, r .0);
         takes = λ q. (record { room = r .0; some = o .0; few = r .1; rising = o .1 }, pick-true _ _ _ h);
-        brings = other 79 73 (getD m 1 0) refl s;
-        points = other 79 77 (getD m 1 0) refl s;
-        draws = other 79 71 (getD m 1 0) refl s;
         begins = other 79 66 (getD m 1 0) refl s;
-        ends = λ a b c d e. absurd (a s);
+        ends = other 79 69 (getD m 1 0) refl s;
+        others = λ a b c. absurd (a s);
       }
 
   way-in : (org dest back k : ℕ) → standsIn (w .number .0 + 1) org dest back k m ≡ true
       → Way (getD m 1 0) w m t (pick (standsIn (w .number .0 + 1) org dest back k m) (went w (lengthOf into 0) 0 0 (w .moved)) lost)
+  unfolding lengthOf
   way-in org dest back k h =
       let s = in-sign (w .number .0 + 1) org dest back k m h in
       let n = in-number (w .number .0 + 1) org dest back k m h in
@@ -128,16 +148,14 @@ module _ (w : Walk) (m : List ℕ) (t : Bool) where
         number = omega (arith, n);
         room = omega (arith, r);
         takes = other 73 79 (getD m 1 0) refl s;
-        brings = λ q. (r, pick-true _ _ _ h);
-        points = other 73 77 (getD m 1 0) refl s;
-        draws = other 73 71 (getD m 1 0) refl s;
         begins = other 73 66 (getD m 1 0) refl s;
-        ends = λ a b c d e. absurd (b s);
+        ends = other 73 69 (getD m 1 0) refl s;
+        others = λ a b c. bare-went (getD m 1 0) (lengthOf into 0) 0 w m _ (bare-in (getD m 1 0) m s) r (pick-true _ _ _ h);
       }
 
   way-point : (base old new : ℕ) → standsModify (w .number .0 + 1) base old new m ≡ true
       → Way (getD m 1 0) w m t (pick (standsModify (w .number .0 + 1) base old new m) (went w (lengthOf modify 0) 0 (le4 m 20) (w .moved)) lost)
-  unfolding standsModify kindOf
+  unfolding standsModify kindOf lengthOf
   way-point base old new h =
       let s = stands-sign (w .number .0 + 1) (LM base old new (le4 m 20)) m h in
       let n = stands-number (w .number .0 + 1) (LM base old new (le4 m 20)) m h in
@@ -146,11 +164,9 @@ module _ (w : Walk) (m : List ℕ) (t : Bool) where
         number = omega (arith, n);
         room = omega (arith, r);
         takes = other 77 79 (getD m 1 0) refl s;
-        brings = other 77 73 (getD m 1 0) refl s;
-        points = λ q. (r, pick-true _ _ _ h);
-        draws = other 77 71 (getD m 1 0) refl s;
         begins = other 77 66 (getD m 1 0) refl s;
-        ends = λ a b c d e. absurd (c s);
+        ends = other 77 69 (getD m 1 0) refl s;
+        others = λ a b c. bare-went (getD m 1 0) (lengthOf modify 0) (le4 m 20) w m _ (bare-point (getD m 1 0) m s) r (pick-true _ _ _ h);
       }
 
   -- an LE, with or without images
@@ -164,11 +180,9 @@ module _ (w : Walk) (m : List ℕ) (t : Bool) where
         number = omega (arith, n);
         room = close-room (w .number .0 + 1) u is m h;
         takes = other 69 79 (getD m 1 0) refl s;
-        brings = other 69 73 (getD m 1 0) refl s;
-        points = other 69 77 (getD m 1 0) refl s;
-        draws = other 69 71 (getD m 1 0) refl s;
         begins = other 69 66 (getD m 1 0) refl s;
-        ends = λ a b c d e. (op, pick-true _ _ _ q);
+        ends = λ e. (op, pick-true _ _ _ q);
+        others = λ a b c. absurd (c s);
       }
 
   way-end : (u : ℕ) → stands (w .number .0 + 1) (LE u []) m ≡ true → w .opened ≡ true → Way (getD m 1 0) w m t (pick (stands (w .number .0 + 1) (LE u []) m) (ended w t) lost)
@@ -176,7 +190,7 @@ module _ (w : Walk) (m : List ℕ) (t : Bool) where
 
   way-image : (is : List Image) → standsImage (w .number .0 + 1) is m ≡ true
       → Way (getD m 1 0) w m t (pick (standsImage (w .number .0 + 1) is m) (went w (lengthOf image 1) 0 0 (w .moved)) lost)
-  unfolding standsImage kindOf
+  unfolding standsImage kindOf lengthOf
   way-image is h =
       let s = stands-sign (w .number .0 + 1) (LG (readImage m)) m (both-2 _ _ h) in
       let n = stands-number (w .number .0 + 1) (LG (readImage m)) m (both-2 _ _ h) in
@@ -185,11 +199,9 @@ module _ (w : Walk) (m : List ℕ) (t : Bool) where
         number = omega (arith, n);
         room = omega (arith, r);
         takes = other 71 79 (getD m 1 0) refl s;
-        brings = other 71 73 (getD m 1 0) refl s;
-        points = other 71 77 (getD m 1 0) refl s;
-        draws = λ q. (r, pick-true _ _ _ h);
         begins = other 71 66 (getD m 1 0) refl s;
-        ends = λ a b c d e. absurd (d s);
+        ends = other 71 69 (getD m 1 0) refl s;
+        others = λ a b c. bare-went (getD m 1 0) (lengthOf image 1) 0 w m _ (bare-image (getD m 1 0) m s) r (pick-true _ _ _ h);
       }
 
   way-begin : standsBegin (w .number .0 + 1) (w .unit .0 + 1) m ≡ true → Way (getD m 1 0) w m t (pick (standsBegin (w .number .0 + 1) (w .unit .0 + 1) m) (begun w (pick (savesAt m) 1 0)) lost)
@@ -203,11 +215,9 @@ module _ (w : Walk) (m : List ℕ) (t : Bool) where
         number = omega (arith, n);
         room = begin-least (pick (savesAt m) 1 0) (length m) r;
         takes = other 66 79 (getD m 1 0) refl s;
-        brings = other 66 73 (getD m 1 0) refl s;
-        points = other 66 77 (getD m 1 0) refl s;
-        draws = other 66 71 (getD m 1 0) refl s;
         begins = λ q. (r, omega (arith, u), pick-true _ _ _ h);
-        ends = λ a b c d e. absurd (e s);
+        ends = other 66 69 (getD m 1 0) refl s;
+        others = λ a b c. absurd (b s);
       }
 
   way-step : (x : Step) → (stepped w m t x) .ok ≡ true → w .opened ≡ true → Way (getD m 1 0) w m t (stepped w m t x)

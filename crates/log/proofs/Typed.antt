@@ -7,16 +7,17 @@ use mathlib.Core.List.{List, [], _∷_}
 use lib.ListN.{length, take, drop, getD, length-drop}
 use lib.Seq.{take-all}
 use lib.Dec.{eqb, leb}
-use borrow.Author.Tests.{eq-eqb, ne-eqb, le-leb, lt-leb, not-true, not-false}
+use borrow.Author.Tests.{eq-eqb, ne-eqb, eqb-true, leb-true, le-leb, lt-leb, not-true, not-false}
 use Rattle.field.specs.Test.{both, all, pick}
 use Rattle.field.specs.Bytes.{part, allZero, le2}
-use Rattle.field.proofs.Test.{both-end, both-true, both-false, pick-true, pick-false}
+use Rattle.field.proofs.Test.{all-head, all-tail, both-end, both-true, both-false, pick-true, pick-false}
 use Rattle.field.proofs.Number.{le2-drop}
 use Rattle.field.proofs.Part.{part-part, length-part}
 use Rattle.page.specs.Page.{rowsOf, ascend, ascendRecords}
 use Rattle.log.specs.Record.{saves}
-use Rattle.log.specs.Log.{onLeaves, listed, compactOk, swapOk, moveOk, carriesOk, saveOk, typeOk, savesAt, readFields, readBegin}
+use Rattle.log.specs.Log.{within, onLeaves, listed, differ, compactOk, swapOk, moveOk, carriesOk, saveOk, typeOk, beginOk, savesAt, readFields, readBegin}
 use Rattle.log.proofs.Fields.{all-fail, length-readFields, getD-readFields}
+use Rattle.log.proofs.Begun.{begin-type!, begin-rest! }
 
 module _ (m : List ℕ) where
   -- the destination lies among the leaf pages
@@ -230,22 +231,30 @@ module _ (m : List ℕ) where
         let j : leb 4 t ≡ false = lt-leb 4 t (omega arith) in
         sym (type-is ∙ rw (n, k, j, eq-eqb t 3 h, ← e))
 
-    pub type-none! : t ≡ 0 → false ≡ typeOk (readBegin 0 m)
-    unfolding pick both
-    type-none! h =
-        let n : eqb t 1 ≡ false = ne-eqb t 1 (λ x. omega arith) in
-        let k : eqb t 2 ≡ false = ne-eqb t 2 (λ x. omega arith) in
-        let i : eqb t 3 ≡ false = ne-eqb t 3 (λ x. omega arith) in
-        let j : leb 4 t ≡ false = lt-leb 4 t (omega arith) in
-        sym (type-is ∙ rw (n, k, j, i))
+    pub type-none! : savesAt m ≡ false → (t ≡ 1 → ⊥) → (t ≡ 2 → ⊥) → (t ≡ 3 → ⊥) → false ≡ typeOk (readBegin 0 m)
+    unfolding pick both savesAt
+    type-none! v a b c =
+        let j : leb 4 t ≡ false = ap (leb 4) q ∙ v in
+        sym (type-is ∙ rw (ne-eqb t 1 a, ne-eqb t 2 b, j, ne-eqb t 3 c))
 
-    -- any other type is a put's or a delete's, or none
-    pub other-saves : (t ≡ 0 → ⊥) → (t ≡ 1 → ⊥) → (t ≡ 2 → ⊥) → (t ≡ 3 → ⊥) → savesAt m ≡ true
-    unfolding savesAt
-    other-saves z a b c = rw (← q) (le-leb 4 t (omega arith))
+  -- a put's or a delete's
+  type-saves : savesAt m ≡ true → typeOk (readBegin 0 m) ≡ saveOk (readBegin 0 m)
+  unfolding pick savesAt
+  type-saves v =
+      let four : 4 ≤ getD m 16 0 = leb-true 4 (getD m 16 0) v in
+      type-is (getD m 16 0) refl ∙ rw (ne-eqb (getD m 16 0) 1 (λ e. omega (arith, e, four)), ne-eqb (getD m 16 0) 2 (λ e. omega (arith, e, four)), v)
 
-    pub type-save! : (z : Bool) → (t ≡ 0 → ⊥) → (t ≡ 1 → ⊥) → (t ≡ 2 → ⊥) → (t ≡ 3 → ⊥) → z ≡ saveOk (readBegin 0 m) → z ≡ typeOk (readBegin 0 m)
-    unfolding pick
-    type-save! z n a b c e =
-        let j : leb 4 t ≡ true = le-leb 4 t (omega arith) in
-        sym (type-is ∙ rw (ne-eqb t 1 a, ne-eqb t 2 b, j, ← e))
+  -- it lists nothing, so that its pages keep to their rules
+  saves-none : saveOk (readBegin 0 m) ≡ true → (getD m 18 0 ≡ 0) × (getD m 19 0 ≡ 0)
+  unfolding saveOk readBegin
+  saves-none e =
+      let t1 = all-tail _ _ e in
+      let t2 = all-tail _ _ t1 in
+      (sym (length-readFields (getD m 18 0) (drop 20 m)) ∙ eqb-true _ 0 (all-head _ _ t1), sym (length-readFields (getD m 19 0) (drop 24 m)) ∙ eqb-true _ 0 (all-head _ _ t2))
+
+  pub save-begin! : savesAt m ≡ true → (z : Bool) → z ≡ saveOk (readBegin 0 m) → z ≡ beginOk (readBegin 0 m)
+  unfolding readFields within differ
+  save-begin! v false e = begin-type! m false (e ∙ sym (type-saves v)) refl
+  save-begin! v true e =
+      let k = saves-none (sym e) in
+      begin-rest! m 0 (sym (k .0)) 0 (sym (k .1)) true refl true (e ∙ sym (type-saves v)) refl true refl refl true refl refl true refl refl

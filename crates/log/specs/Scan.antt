@@ -6,7 +6,7 @@ use mathlib.Core.Bool.{Bool, true, false, not}
 use mathlib.Core.List.{List, [], _∷_}
 use mathlib.Core.Option.{Option, none}
 use lib.ListN.{length, drop, getD}
-use lib.Dec.{eqb}
+use lib.Dec.{eqb, leb}
 use Rattle.field.specs.Test.{both, pick, given, there}
 use Rattle.field.specs.Bytes.{allZero, le2, le4}
 use Rattle.page.specs.Page.{rowsOf}
@@ -119,6 +119,13 @@ begun w k = opens w (lengthOf begin k) (w .unit .0 + 1) (w .at) 0 0 0 0 0
 unfoldable pub went : Walk → (long rows key moved : ℕ) → Walk
 went w long rows key moved = opens w long (w .unit .0) (w .begin) (w .done + 1) rows (pick (eqb (w .done) 0) rows (w .first)) key moved
 
+-- how long the record is that bears this sign where it is an LI, LM or LG, and the key that an LM at the front of m has
+unfoldable pub bareLong : (sign : ℕ) → ℕ
+bareLong g = pick (eqb g (into .sign)) (lengthOf into 0) (pick (eqb g (modify .sign)) (lengthOf modify 0) (lengthOf image 1))
+
+unfoldable pub bareKey : (sign : ℕ) → (m : List ℕ) → ℕ
+bareKey g m = pick (eqb g (modify .sign)) (le4 m 20) 0
+
 -- an LE; of a compact, LK becomes the largest key moved
 unfoldable pub ended : Walk → (compact : Bool) → Walk
 ended w compact =
@@ -172,6 +179,11 @@ pub record Ready (l : List ℕ) (w : Walk) : Type 0 where
   pub start : w .opened ≡ true → beginOk (readBegin (w .unit .0) (drop (w .begin) l)) ≡ true
   pub saving : w .opened ≡ true → savesAt (drop (w .begin) l) ≡ true → w .at ≡ w .begin + lengthOf begin 1 + lengthOf image 1 * w .done
 
+-- the next record is one of a put or delete, or the log is too short for an LB
+unfoldable pub savingOn : (l : List ℕ) → Walk → Bool
+savingOn l w =
+    pick (w .opened) (savesAt (drop (w .begin) l)) (pick (leb (begin .fixed) (length (drop (w .at) l))) (savesAt (drop (w .at) l)) true)
+
 -- the check record
 unfoldable pub topped : (l : List ℕ) → Walk
 topped l = given (readCheck l) lost (λ c. shown (first c))
@@ -198,6 +210,11 @@ noted e at n f = pick (e .ends) e (pick (eqb at f) (record { ends = true; number
 -- another record comes
 unfoldable pub live : (l : List ℕ) → Walk → Bool
 live l w = both (w .ok) (not (eqb (getD l (w .at) 0) 0))
+
+-- one of a unit that tidies, where no put or delete is open
+unfoldable pub tidiesOn : (l : List ℕ) → Walk → Bool
+tidiesOn l w =
+    both (live l w) (pick (w .opened) true (pick (leb (begin .fixed) (length (drop (w .at) l))) (not (savesAt (drop (w .at) l))) false))
 
 -- the answer at the log's end, where all bytes after are zero
 unfoldable pub finished : (l : List ℕ) → Walk → Mark → Scan

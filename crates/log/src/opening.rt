@@ -1,6 +1,6 @@
 // Whether a begin record keeps the rules of its type. Each function is lent the log's bytes from the record on.
 ghost use mathlib.Core.Path.{_≡_};
-ghost use mathlib.Core.Bool.{true};
+ghost use mathlib.Core.Bool.{true, false};
 ghost use mathlib.Core.List.{[], _∷_};
 ghost use Prim.Native.Nat.{_+_, _-_, _*_, _≤_, _<_};
 ghost use lib.ListN.{length, drop, getD};
@@ -221,8 +221,8 @@ fn carries_ok(m: &[u8]) -> bool
     field::zeros(&m[VALUE_AT..kind::LB_LONG + 16])
 }
 
-// Whether a put or delete lists nothing.
-fn save_ok(m: &[u8]) -> bool
+// Whether a put or delete lists nothing, and carries a record in form.
+pub fn save_ok(m: &[u8]) -> bool
     requires { ⌜ Whole (now m) × (savesAt (now m) ≡ true) ⌝ }
     ensures { λ r. ⌜ r ≡ saveOk (readBegin 0 (now (m .entry))) ⌝ }
 {
@@ -244,9 +244,9 @@ fn save_ok(m: &[u8]) -> bool
     carries_ok(m)
 }
 
-// Whether the rules of the record's type hold.
+// Whether the rules of the record's type hold, where the unit tidies.
 fn type_ok(m: &[u8]) -> bool
-    requires { ⌜ Whole (now m) ⌝ }
+    requires { ⌜ (begin .fixed ≤ length (now m)) × (savesAt (now m) ≡ false) ⌝ }
     ensures { λ r. ⌜ r ≡ typeOk (readBegin 0 (now (m .entry))) ⌝ }
 {
     let kind = byte_at(m, TYPE_AT);
@@ -259,15 +259,12 @@ fn type_ok(m: &[u8]) -> bool
     if kind == 3 {
         return move_ok(m);
     }
-    if kind == 0 {
-        return false;
-    }
-    save_ok(m)
+    false
 }
 
-// Whether a begin record keeps all rules but those of its header, its unit number and its unused fields.
+// Whether the begin record of a unit that tidies keeps all rules but those of its header, its unit number and its unused fields.
 pub fn begin_ok(m: &[u8]) -> bool
-    requires { ⌜ Whole (now m) ⌝ }
+    requires { ⌜ (begin .fixed ≤ length (now m)) × (savesAt (now m) ≡ false) ⌝ }
     ensures { λ r. ⌜ r ≡ beginOk (readBegin 0 (now (m .entry))) ⌝ }
 {
     let bases = byte_at(m, BASE_COUNT_AT);

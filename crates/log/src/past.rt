@@ -10,7 +10,7 @@ ghost use Rattle.field.specs.Bytes.{le2, le4};
 ghost use Rattle.page.specs.Page.{rowsOf};
 ghost use Rattle.log.specs.Record.{begin, out, into, modify, image, end, lengthOf};
 ghost use Rattle.log.specs.Log.{largest};
-ghost use Rattle.log.specs.Scan.{begun, went, ended, turned, Ready};
+ghost use Rattle.log.specs.Scan.{begun, went, bareLong, bareKey, ended, turned, Ready};
 ghost use Rattle.log.specs.Carries.{Carries};
 use crate::kind;
 use crate::opening;
@@ -155,7 +155,32 @@ pub fn ended(w: Walk, compact: bool) -> Walk
     }
 }
 
-// Past the next record of a log that has one there in form: nothing is compared.
+// How long an LI, LM or LG is, by its sign.
+fn bare_long(sign: u8) -> usize
+    ensures { λ r. ⌜ r ≡ bareLong sign ⌝ }
+{
+    if sign == kind::sign(kind::LI) {
+        return kind::size_of(kind::LI, 0);
+    }
+    if sign == kind::sign(kind::LM) {
+        return kind::size_of(kind::LM, 0);
+    }
+    kind::size_of(kind::LG, 1)
+}
+
+// The key of an LM at the front of m; 0 for an LI or LG.
+fn bare_key(m: &[u8], sign: u8) -> u32
+    requires { ⌜ bareLong sign ≤ length (now m) ⌝ }
+    ensures { λ r. ⌜ r ≡ bareKey sign (now (m .entry)) ⌝ }
+{
+    if sign == kind::sign(kind::LM) {
+        return field::get4(m, 20);
+    }
+    0
+}
+
+// Past the next record of a log that has one there in form: nothing is compared. An LI, LM and LG go one way, so that the whole is small enough
+// to be compiled in its place where a log is repeated.
 pub fn past(l: &[u8], w: Walk) -> Walk
     requires { ⌜ Ready (now l) w × ((turned (now l) w) .ok ≡ true) ⌝ }
     ensures { λ r. ⌜ r ≡ turned (now (l .entry)) w ⌝ }
@@ -166,17 +191,11 @@ pub fn past(l: &[u8], w: Walk) -> Walk
     if sign == kind::sign(kind::LO) {
         return taken_out(&l[at..], w);
     }
-    if sign == kind::sign(kind::LI) {
-        return brought_in(w);
-    }
-    if sign == kind::sign(kind::LM) {
-        return pointed(&l[at..], w);
-    }
-    if sign == kind::sign(kind::LG) {
-        return imaged(w);
-    }
     if sign == kind::sign(kind::LB) {
         return begun(w, reading::carried(&l[at..]));
     }
-    ended(w, l[begin + opening::TYPE_AT] == 1)
+    if sign == kind::sign(kind::LE) {
+        return ended(w, l[begin + opening::TYPE_AT] == 1);
+    }
+    went(w, bare_long(sign), 0, bare_key(&l[at..], sign), w.moved)
 }

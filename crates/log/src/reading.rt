@@ -1,7 +1,7 @@
 // Whether a record stands at an offset of the log: the record that must stand there is written into a few bytes, as many as an LM has, the
 // longest, and these are compared.
 ghost use mathlib.Core.Path.{_≡_};
-ghost use mathlib.Core.Bool.{true};
+ghost use mathlib.Core.Bool.{true, false};
 ghost use mathlib.Core.List.{List, []};
 ghost use Prim.Native.Nat.{_+_, _-_, _*_, _%_, _≤_, _<_};
 ghost use lib.ListN.{length, take, drop};
@@ -93,17 +93,11 @@ pub fn carried(m: &[u8]) -> u16
     0
 }
 
-// Whether an LB of this unit stands at the front of m. Of its bytes those are compared that an LE has too: header and unit number.
+// Whether the LB of this unit, which tidies, stands at the front of m. Of its bytes those are compared that an LE has too: header and unit number.
 pub fn is_begin(m: &[u8], n: LogNo, unit: UnitNo) -> bool
+    requires { ⌜ (begin .fixed ≤ length (now m)) × (savesAt (now m) ≡ false) ⌝ }
     ensures { λ r. ⌜ r ≡ standsBegin (n .0) (unit .0) (now (m .entry)) ⌝ }
 {
-    if m.len() < kind::size_of(kind::LB, 0) {
-        return false;
-    }
-    let rows = carried(m);
-    if m.len() < kind::size_of(kind::LB, rows) {
-        return false;
-    }
     if !opening::begin_ok(m) {
         return false;
     }
@@ -111,7 +105,26 @@ pub fn is_begin(m: &[u8], n: LogNo, unit: UnitNo) -> bool
         return false;
     }
     let mut b = [0u8; kind::LM_LONG];
-    writing::put_unit(&mut b, 0, kind::LB, rows, n, LogNo(0), unit);
+    writing::put_unit(&mut b, 0, kind::LB, 0, n, LogNo(0), unit);
+    same_at(m, 0, &b, kind::size_of(kind::LE, 0))
+}
+
+// The same of a put or delete; where m is too short for that, none stands there.
+pub fn is_save(m: &[u8], n: LogNo, unit: UnitNo) -> bool
+    requires { ⌜ (begin .fixed ≤ length (now m) → savesAt (now m) ≡ true) ⌝ }
+    ensures { λ r. ⌜ r ≡ standsBegin (n .0) (unit .0) (now (m .entry)) ⌝ }
+{
+    if m.len() < kind::size_of(kind::LB, 1) {
+        return false;
+    }
+    if !opening::save_ok(m) {
+        return false;
+    }
+    if !opening::spare_zero(m) {
+        return false;
+    }
+    let mut b = [0u8; kind::LM_LONG];
+    writing::put_unit(&mut b, 0, kind::LB, 1, n, LogNo(0), unit);
     same_at(m, 0, &b, kind::size_of(kind::LE, 0))
 }
 

@@ -10,7 +10,7 @@ ghost use Rattle.log.specs.Plan.{takeOut, bringIn, point, close, plan};
 ghost use Rattle.log.specs.Log.{past, beginOk, savesAt, readBegin};
 ghost use Rattle.log.specs.Stand.{standsBegin, standsImage, standsLast};
 ghost use Rattle.log.specs.Steps.{stepOf};
-ghost use Rattle.log.specs.Scan.{lost, begun, went, ended, stepped, imagesOn, saved, Saving, turned, Ready, topped, noted, live, finished, scanned};
+ghost use Rattle.log.specs.Scan.{lost, begun, went, ended, stepped, imagesOn, saved, Saving, turned, Ready, savingOn, topped, noted, live, tidiesOn, finished, scanned};
 use crate::kind;
 use crate::opening;
 use crate::past;
@@ -78,9 +78,9 @@ fn lost() -> Walk
     }
 }
 
-// An LB at the front of m.
+// The LB of a unit that tidies, at the front of m.
 fn begin_turn(m: &[u8], w: Walk) -> Walk
-    requires { ⌜ (w .number .0 < 4294967295) × (w .at + length (now m) < 18446744073709551616) ⌝ }
+    requires { ⌜ (w .number .0 < 4294967295) × (w .at + length (now m) < 18446744073709551616) × (begin .fixed ≤ length (now m)) × (savesAt (now m) ≡ false) ⌝ }
     ensures { λ r. ⌜ r ≡ pick (standsBegin (w .number .0 + 1) (w .unit .0 + 1) (now (m .entry))) (begun w (pick (savesAt (now (m .entry))) 1 0)) lost ⌝ }
 {
     if w.unit.0 == 4294967295 {
@@ -89,7 +89,21 @@ fn begin_turn(m: &[u8], w: Walk) -> Walk
     if !reading::is_begin(m, LogNo(w.number.0 + 1), UnitNo(w.unit.0 + 1)) {
         return lost();
     }
-    past::begun(w, reading::carried(m))
+    past::begun(w, 0)
+}
+
+// The LB of a put or delete, or none, at the front of m.
+fn save_begun(m: &[u8], w: Walk) -> Walk
+    requires { ⌜ (w .number .0 < 4294967295) × (w .at + length (now m) < 18446744073709551616) × (begin .fixed ≤ length (now m) → savesAt (now m) ≡ true) ⌝ }
+    ensures { λ r. ⌜ r ≡ pick (standsBegin (w .number .0 + 1) (w .unit .0 + 1) (now (m .entry))) (begun w (pick (savesAt (now (m .entry))) 1 0)) lost ⌝ }
+{
+    if w.unit.0 == 4294967295 {
+        return lost();
+    }
+    if !reading::is_save(m, LogNo(w.number.0 + 1), UnitNo(w.unit.0 + 1)) {
+        return lost();
+    }
+    past::begun(w, 1)
 }
 
 // The LO of a step at the front of m.
@@ -210,7 +224,7 @@ fn last_turn(l: &[u8], w: Walk) -> Walk
     past::ended(w, false)
 }
 
-// The next record of a put or delete.
+// The next record of a put or delete that is open.
 fn save_turn(l: &[u8], w: Walk) -> Walk
     requires { ⌜ Saving (now l) w × (w .number .0 < 4294967295) ⌝ }
     ensures { λ r. ⌜ r ≡ saved w (drop (w .at) (now (l .entry))) (imagesOn (now (l .entry)) w) ⌝ }
@@ -225,9 +239,24 @@ fn save_turn(l: &[u8], w: Walk) -> Walk
     last_turn(l, w)
 }
 
-// The next record of the log.
+// The next record of a put or delete: its LB where no unit is open. Where the log is too short for an LB, it is broken.
+fn saving_turn(l: &[u8], w: Walk) -> Walk
+    requires { ⌜ Ready (now l) w × (savingOn (now l) w ≡ true) ⌝ }
+    ensures { λ r. ⌜ r ≡ turned (now (l .entry)) w ⌝ }
+{
+    let at = w.at;
+    if w.number.0 == 4294967295 {
+        return lost();
+    }
+    if !w.opened {
+        return save_begun(&l[at..], w);
+    }
+    save_turn(l, w)
+}
+
+// The next record of a unit that tidies.
 fn turn(l: &[u8], w: Walk) -> Walk
-    requires { ⌜ Ready (now l) w ⌝ }
+    requires { ⌜ Ready (now l) w × (savingOn (now l) w ≡ false) ⌝ }
     ensures { λ r. ⌜ r ≡ turned (now (l .entry)) w ⌝ }
 {
     let at = w.at;
@@ -237,9 +266,6 @@ fn turn(l: &[u8], w: Walk) -> Walk
     }
     if !w.opened {
         return begin_turn(&l[at..], w);
-    }
-    if opening::saves(&l[begin..]) {
-        return save_turn(l, w);
     }
     let compact = l[begin + opening::TYPE_AT] == 1;
     let x = step_of(&l[begin..], compact, w.unit, w.done);
@@ -337,7 +363,42 @@ fn finish(l: &[u8], w: Walk, e: Mark) -> Scan
     }
 }
 
-// The whole pass: all that a call needs to know of the log, of which `forced` bytes are forced.
+// Whether the next record is for `saving_turn`.
+fn saving(l: &[u8], w: Walk) -> bool
+    requires { ⌜ Ready (now l) w ⌝ }
+    ensures { λ r. ⌜ r ≡ savingOn (now (l .entry)) w ⌝ }
+{
+    let at = w.at;
+    let begin = w.begin;
+    if w.opened {
+        return opening::saves(&l[begin..]);
+    }
+    if l.len() - at < kind::LB_LONG {
+        return true;
+    }
+    opening::saves(&l[at..])
+}
+
+// Whether a record of a unit that tidies comes, where no put or delete is open.
+fn tidies(l: &[u8], w: Walk) -> bool
+    requires { ⌜ (w .at ≤ length (now l)) ⌝ }
+    ensures { λ r. ⌜ r ≡ tidiesOn (now (l .entry)) w ⌝ }
+{
+    let at = w.at;
+    if !live(l, w) {
+        return false;
+    }
+    if w.opened {
+        return true;
+    }
+    if l.len() - at < kind::LB_LONG {
+        return false;
+    }
+    !opening::saves(&l[at..])
+}
+
+// The whole pass: all that a call needs to know of the log, of which `forced` bytes are forced. Units that tidy have a loop of their own, whose
+// numbers the compiler keeps at hand, and it asks nothing at a step that it did not ask before there were puts.
 pub fn scan_log(l: &[u8], forced: u32) -> Scan
     ensures { λ r. ⌜ r ≡ scanned forced (now (l .entry)) ⌝ }
 {
@@ -347,8 +408,15 @@ pub fn scan_log(l: &[u8], forced: u32) -> Scan
         number: LogNo(0),
     };
     while live(l, w) {
-        e = noted(e, w.at, w.number, forced);
-        w = turn(l, w);
+        if saving(l, w) {
+            e = noted(e, w.at, w.number, forced);
+            w = saving_turn(l, w);
+        } else {
+            while tidies(l, w) {
+                e = noted(e, w.at, w.number, forced);
+                w = turn(l, w);
+            }
+        }
     }
     e = noted(e, w.at, w.number, forced);
     finish(l, w, e)

@@ -10,9 +10,9 @@ use Rattle.field.specs.Test.{pick}
 use Rattle.log.specs.Record.{begin, lengthOf}
 use Rattle.log.specs.Log.{savesAt}
 use Rattle.log.specs.Table.{kinds, kindAt}
-use Rattle.log.specs.Scan.{begun, ended, turned}
+use Rattle.log.specs.Scan.{begun, went, bareLong, bareKey, ended, turned}
 use Rattle.log.proofs.Begun.{one-most}
-use Rattle.log.proofs.Signs.{Way, begin-room-fixed, way-past}
+use Rattle.log.proofs.Signs.{Way, bare-some, begin-room-fixed, way-past}
 use borrow.Author.Needs.{needs}
 use Rattle.log.proofs.past.past.Statement.{statement}
 use Rattle.log.proofs.past.past.Tie as tie
@@ -30,21 +30,30 @@ on c = let a = entry c in way-past (a .args .l .now) (a .args .w) (a .pre .1)
 rest : (c : tie.After-sign) → let a = entry c .args in length (drop (a .w .at) (a .l .now)) ≡ length (a .l .now) - a .w .at
 rest c = let a = entry c .args in length-drop (a .w .at) (a .l .now)
 
--- no other sign: it is an LE
-last : (c : tie.Else5) → let a = entry (c .before .before .before .before .before .before .before .before .before) .args in
+-- an LB, with the record that it may carry
+starts : (c : tie.Then2) → let a = entry (c .before .before .before) .args in
+    (lengthOf begin (pick (savesAt (drop (a .w .at) (a .l .now))) 1 0) ≤ length (drop (a .w .at) (a .l .now))) × (a .w .unit .0 < 4294967295)
+    × (turned (a .l .now) (a .w) ≡ begun (a .w) (pick (savesAt (drop (a .w .at) (a .l .now))) 1 0))
+unfolding kindAt kinds
+starts c = on (c .before .before .before) .begins (c .if2 .taken ∙ c .before .sign2 .ensures)
+
+-- an LE
+last : (c : tie.Then3) → let a = entry (c .before .before .before .before .before) .args in
     (a .w .opened ≡ true) × (turned (a .l .now) (a .w) ≡ ended (a .w) (eqb (getD (a .l .now) (a .w .begin + 16) 0) 1))
 unfolding kindAt kinds
-last c =
-    let fourth = c .before .before in
-    let third = fourth .before .before in
-    let second = third .before .before in
+last c = on (c .before .before .before .before .before) .ends (c .if3 .taken ∙ c .before .sign3 .ensures)
+
+-- an LI, LM or LG
+bare : (c : tie.Else3) → let a = entry (c .before .before .before .before .before) .args in
+    (bareLong (getD (a .l .now) (a .w .at + 1) 0) ≤ length (drop (a .w .at) (a .l .now)))
+    × (turned (a .l .now) (a .w)
+    ≡ went (a .w) (bareLong (getD (a .l .now) (a .w .at + 1) 0)) 0 (bareKey (getD (a .l .now) (a .w .at + 1) 0) (drop (a .w .at) (a .l .now))) (a .w .moved))
+unfolding kindAt kinds
+bare c =
+    let second = c .before .before in
     let first = second .before .before in
-    on (first .before) .ends
-    (λ q. first .if1 .left (q ∙ sym (first .before .sign .ensures)))
-    (λ q. second .if2 .left (q ∙ sym (second .before .sign2 .ensures)))
-    (λ q. third .if3 .left (q ∙ sym (third .before .sign3 .ensures)))
-    (λ q. fourth .if4 .left (q ∙ sym (fourth .before .sign4 .ensures)))
-    (λ q. c .if5 .left (q ∙ sym (c .before .sign5 .ensures)))
+    on (first .before) .others (λ q. first .if1 .left (q ∙ sym (first .before .sign .ensures))) (λ q. second .if2 .left (q ∙ sym (second .before .sign2 .ensures)))
+    (λ q. c .if3 .left (q ∙ sym (c .before .sign3 .ensures)))
 
 add-sign : tie.Need-add-sign
 add-sign c = search needs
@@ -83,73 +92,6 @@ returns c =
 sign-requires-2 : tie.Need-sign-requires-2
 sign-requires-2 c κs = search needs
 
-brought-in-requires : tie.Need-brought-in-requires
-unfolding kindAt kinds
-brought-in-requires c κs =
-    let k = c .before .before .before in
-    let x = on k .brings (c .if2 .taken ∙ c .before .sign2 .ensures) in
-    (on k .number, omega (arith, x .0, rest k), entry k .pre .0 .steps)
-
-returns-2 : tie.Need-returns-2
-unfolding kindAt kinds
-returns-2 c =
-    let k = c .before .before .before .before in
-    let x = on k .brings (c .before .if2 .taken ∙ c .before .before .sign2 .ensures) in
-    c .brought-in .ensures ∙ sym (x .1)
-
-sign-requires-3 : tie.Need-sign-requires-3
-sign-requires-3 c κs = search needs
-
-sub-pointed : tie.Need-sub-pointed
-sub-pointed c = search needs
-
-part-pointed-start : tie.Need-part-pointed-start
-part-pointed-start c = search needs
-
-part-pointed-end : tie.Need-part-pointed-end
-part-pointed-end c = search needs
-
-pointed-requires : tie.Need-pointed-requires
-unfolding kindAt kinds
-pointed-requires c κs =
-    let k = c .before .before .before .before .before .before in
-    let x = on k .points (c .before .if3 .taken ∙ c .before .before .sign3 .ensures) in
-    (on k .number, omega (arith, x .0, rest k), entry k .pre .0 .steps, rw part-to-end (x .0))
-
-returns-3 : tie.Need-returns-3
-unfolding kindAt kinds
-returns-3 c =
-    let k = c .before .before .before .before .before .before .before in
-    let x = on k .points (c .before .before .if3 .taken ∙ c .before .before .before .sign3 .ensures) in
-    rw part-to-end at (c .pointed .ensures) ∙ sym (x .1)
-
-sign-requires-4 : tie.Need-sign-requires-4
-sign-requires-4 c κs = search needs
-
-imaged-requires : tie.Need-imaged-requires
-unfolding kindAt kinds lengthOf
-imaged-requires c κs =
-    let k = c .before .before .before .before .before .before .before in
-    let x = on k .draws (c .if4 .taken ∙ c .before .sign4 .ensures) in
-    (on k .number, omega (arith, x .0, rest k), entry k .pre .0 .steps)
-
-returns-4 : tie.Need-returns-4
-unfolding kindAt kinds
-returns-4 c =
-    let k = c .before .before .before .before .before .before .before .before in
-    let x = on k .draws (c .before .if4 .taken ∙ c .before .before .sign4 .ensures) in
-    c .imaged .ensures ∙ sym (x .1)
-
-sign-requires-5 : tie.Need-sign-requires-5
-sign-requires-5 c κs = search needs
-
--- an LB, with the record that it may carry
-starts : (c : tie.Then5) → let a = entry (c .before .before .before .before .before .before .before .before .before) .args in
-    (lengthOf begin (pick (savesAt (drop (a .w .at) (a .l .now))) 1 0) ≤ length (drop (a .w .at) (a .l .now))) × (a .w .unit .0 < 4294967295)
-    × (turned (a .l .now) (a .w) ≡ begun (a .w) (pick (savesAt (drop (a .w .at) (a .l .now))) 1 0))
-unfolding kindAt kinds
-starts c = on (c .before .before .before .before .before .before .before .before .before) .begins (c .if5 .taken ∙ c .before .sign5 .ensures)
-
 sub-carried : tie.Need-sub-carried
 sub-carried c = search needs
 
@@ -165,26 +107,57 @@ carried-requires c κs = rw part-to-end (begin-room-fixed _ _ (starts (c .before
 begun-requires : tie.Need-begun-requires
 begun-requires c κs =
     let b = c .before .before in
-    let k = c .before .before .before .before .before .before .before .before .before .before .before in
+    let k = b .before .before .before in
     let e = rw part-to-end at (c .carried .ensures) in
     (one-most _ _ e, on k .number, starts b .1, rw e (omega (arith, starts b .0, rest k)))
 
-returns-5 : tie.Need-returns-5
-returns-5 c =
+returns-2 : tie.Need-returns-2
+returns-2 c =
     let b = c .before .before .before in
     c .begun .ensures ∙ rw (rw part-to-end at (c .before .carried .ensures)) (sym (starts b .2))
 
+sign-requires-3 : tie.Need-sign-requires-3
+sign-requires-3 c κs = search needs
+
 add-ended : tie.Need-add-ended
-add-ended c = omega (arith, entry (c .before .before .before .before .before .before .before .before .before) .pre .0 .room (last c .0))
+add-ended c = omega (arith, entry (c .before .before .before .before .before) .pre .0 .room (last c .0))
 
 shared-slice-read-ended : tie.Need-shared-slice-read-ended
-shared-slice-read-ended c = omega (arith, entry (c .before .before .before .before .before .before .before .before .before .before) .pre .0 .room (last (c .before) .0))
+shared-slice-read-ended c = omega (arith, entry (c .before .before .before .before .before .before) .pre .0 .room (last (c .before) .0))
 
 ended-requires : tie.Need-ended-requires
-ended-requires c κs = let k = c .before .before .before .before .before .before .before .before .before .before in (on k .number, omega (arith, on k .room, rest k))
+ended-requires c κs = let k = c .before .before .before .before .before .before in (on k .number, omega (arith, on k .room, rest k))
 
-returns-6 : tie.Need-returns-6
-returns-6 c = c .ended .ensures ∙ sym (last (c .before .before) .1)
+returns-3 : tie.Need-returns-3
+returns-3 c = c .ended .ensures ∙ sym (last (c .before .before) .1)
+
+bare-long-requires : tie.Need-bare-long-requires
+bare-long-requires c κs = search needs
+
+sub-bare-key : tie.Need-sub-bare-key
+sub-bare-key c = search needs
+
+part-bare-key-start : tie.Need-part-bare-key-start
+part-bare-key-start c = search needs
+
+part-bare-key-end : tie.Need-part-bare-key-end
+part-bare-key-end c = search needs
+
+bare-key-requires : tie.Need-bare-key-requires
+bare-key-requires c κs = rw part-to-end (bare (c .before .before) .0)
+
+went-requires : tie.Need-went-requires
+went-requires c κs =
+    let b = c .before .before .before in
+    let k = b .before .before .before .before .before in
+    let long = c .before .before .bare-long .ensures in
+    let room = bare b .0 in
+    (on k .number, omega (arith, long, room, rest k), omega (arith, long, entry k .pre .0 .steps, bare-some (getD (entry k .args .l .now) (entry k .args .w .at + 1) 0)))
+
+returns-4 : tie.Need-returns-4
+returns-4 c =
+    let b = c .before .before .before .before in
+    c .went .ensures ∙ rw (c .before .before .before .bare-long .ensures, rw part-to-end at (c .before .bare-key .ensures)) (sym (bare b .1))
 
 pub past-spec : {M : Type 1} → statement M
 past-spec =
@@ -199,25 +172,21 @@ past-spec =
     taken-out-requires
     returns
     sign-requires-2
-    brought-in-requires
-    returns-2
-    sign-requires-3
-    sub-pointed
-    part-pointed-start
-    part-pointed-end
-    pointed-requires
-    returns-3
-    sign-requires-4
-    imaged-requires
-    returns-4
-    sign-requires-5
     sub-carried
     part-carried-start
     part-carried-end
     carried-requires
     begun-requires
-    returns-5
+    returns-2
+    sign-requires-3
     add-ended
     shared-slice-read-ended
     ended-requires
-    returns-6)
+    returns-3
+    bare-long-requires
+    sub-bare-key
+    part-bare-key-start
+    part-bare-key-end
+    bare-key-requires
+    went-requires
+    returns-4)

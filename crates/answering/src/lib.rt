@@ -1,4 +1,5 @@
 // List, which answers from the pages and changes nothing.
+#![tactic(auto)]
 ghost use Rattle.std.specs.Prelude.{◌≡◌, [], ◌∷◌};
 ghost use Rattle.field.specs.Test.{pick};
 ghost use Rattle.store.specs.Calls.{lent, left, list};
@@ -8,7 +9,7 @@ use store::known::Numbers;
 
 // How many records were written, and whether more remain.
 #[repr(C)]
-#[derive(Drop)]
+#[derive(Clone, Copy)]
 pub struct Listed {
     pub reply: u8,
     pub count: u32,
@@ -16,7 +17,7 @@ pub struct Listed {
 }
 
 // What list returns, and the numbers, which stay.
-#[derive(Drop)]
+#[derive(Clone, Copy)]
 pub struct ListAnswer {
     pub listed: Listed,
     pub numbers: Numbers,

@@ -1,4 +1,5 @@
 // Begin compact and begin order: they differ in a test and in the choice of the unit.
+#![tactic(auto)]
 ghost use Rattle.std.specs.Prelude.{◌≡◌, []};
 ghost use Rattle.store.specs.Calls.{lent, left, begin_compact, begin_order};
 

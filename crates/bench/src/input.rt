@@ -1,18 +1,18 @@
 // Reading the script: each function answers what stands next, or that the script is cut short there.
 
-#[derive(Drop)]
+#[derive(Clone, Copy)]
 pub enum Byte {
     Is(u8),
     Short,
 }
 
-#[derive(Drop)]
+#[derive(Clone, Copy)]
 pub enum Number {
     Is(u32),
     Short,
 }
 
-#[derive(Drop)]
+#[derive(Clone, Copy)]
 pub enum Three {
     Are(u32, u32, u32),
     Short,

@@ -11,7 +11,7 @@ pub const PAGES: usize = 16384;
 pub const LOG: usize = 8192;
 
 // The lengths that the three buffers are lent with.
-#[derive(Drop)]
+#[derive(Clone, Copy)]
 pub struct Lengths {
     pub work: usize,
     pub store: usize,

@@ -1,15 +1,16 @@
 // Little-endian numbers in lent bytes, runs of zeros, copying, and the paper's three counters.
+#![tactic(auto)]
 ghost use Rattle.std.specs.Prelude.{◌≡◌, ◌+◌, ◌*◌, ◌≤◌, ◌<◌, length, eqb};
 ghost use Rattle.field.specs.Bytes.{part, put, zeroes, all_zero, same, le2, le4, bytes2, bytes4};
 
 // The number of a page, of a log record and of a unit: none may stand where another is meant. A page's is as wide as pages and log have it.
-#[derive(Drop)]
+#[derive(Clone, Copy)]
 pub struct PageNo(pub u16);
 
-#[derive(Drop)]
+#[derive(Clone, Copy)]
 pub struct LogNo(pub u32);
 
-#[derive(Drop)]
+#[derive(Clone, Copy)]
 pub struct UnitNo(pub u32);
 
 // The number of two bytes, the lower first.

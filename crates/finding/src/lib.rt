@@ -1,4 +1,5 @@
 // Find, which answers from the pages and changes nothing.
+#![tactic(auto)]
 ghost use Rattle.std.specs.Prelude.{◌≡◌, []};
 ghost use Rattle.field.specs.Bytes.{zeroes};
 ghost use Rattle.store.specs.Calls.{lent, left, find};
@@ -8,7 +9,7 @@ use store::known::Numbers;
 use tree::find::Found;
 
 // What find returns, and the numbers, which stay.
-#[derive(Drop)]
+#[derive(Clone, Copy)]
 pub struct FindAnswer {
     pub found: Found,
     pub numbers: Numbers,

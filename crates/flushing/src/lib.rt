@@ -1,4 +1,5 @@
 // Flush.
+#![tactic(auto)]
 ghost use Rattle.std.specs.Prelude.{◌≡◌, [], ◌<◌, length};
 ghost use Rattle.page.specs.Page.{number};
 ghost use Rattle.page.specs.Pages.{page, put_page};

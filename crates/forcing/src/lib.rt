@@ -1,4 +1,5 @@
 // Force.
+#![tactic(auto)]
 ghost use Rattle.std.specs.Prelude.{◌≡◌, []};
 ghost use Rattle.store.specs.Calls.{lent, left, force};
 

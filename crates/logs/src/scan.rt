@@ -15,7 +15,7 @@ use field::{LogNo, PageNo, UnitNo};
 // What is known after a record: the log's end and its last number, the last unit, LK; of an open unit where its LB stands, how many of
 // its steps are done, where the record before stands, how many records that one and the unit's first carry, the key of the LM before (0 if
 // the record before is no LM), the largest key moved. Where the log's form is broken, ok is false and all else zero.
-#[derive(Drop)]
+#[derive(Clone, Copy)]
 pub struct Walk {
     pub ok: bool,
     pub at: usize,
@@ -34,7 +34,7 @@ pub struct Walk {
 }
 
 // The whole pass: what is known at the log's end, whether a record ends at the bytes forced, and its number.
-#[derive(Drop)]
+#[derive(Clone, Copy)]
 pub struct Scan {
     pub walk: Walk,
     pub ends: bool,
@@ -42,7 +42,7 @@ pub struct Scan {
 }
 
 // Whether a record was found that ends at the bytes forced, and its number.
-#[derive(Drop)]
+#[derive(Clone, Copy)]
 pub struct Mark {
     pub ends: bool,
     pub number: LogNo,

@@ -11,7 +11,7 @@ use crate::opening;
 use field::{PageNo, UnitNo};
 
 // A step: LO, LI (its LO stands `back` records before), LM (`other`: not the entry that the LM before changed), LE.
-#[derive(Drop)]
+#[derive(Clone, Copy)]
 pub enum Planned {
     Out {
         org: PageNo,

@@ -1,5 +1,6 @@
 // What the range reader rests on: where it starts and what a step gives, on the pages and a position of plain numbers. Both take any pages,
 // of any length, and any position; each read is tested against the page's letter and count first.
+#![tactic(auto)]
 ghost use Rattle.std.specs.Prelude.{◌≡◌, ◌+◌, ◌*◌, ◌≤◌, ◌<◌, length};
 ghost use Rattle.page.specs.Page.{count, rows};
 ghost use Rattle.page.specs.Pages.{page};
@@ -12,7 +13,7 @@ use tree::well;
 
 // Where a reader starts: list's reply of these pages, and the position, which is the end where the pages are refused.
 #[repr(C)]
-#[derive(Drop)]
+#[derive(Clone, Copy)]
 pub struct Reached {
     pub reply: u8,
     pub at: Place,
@@ -20,7 +21,7 @@ pub struct Reached {
 
 // What a step gives: whether a record was there, its key and value, and the position after it.
 #[repr(C)]
-#[derive(Drop)]
+#[derive(Clone, Copy)]
 pub struct Step {
     pub found: bool,
     pub key: u32,

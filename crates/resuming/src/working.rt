@@ -12,7 +12,7 @@ use saving::{delete, put};
 use tree::well;
 
 // The reply, 0 where the unit can begin, and how many pages it changes.
-#[derive(Drop)]
+#[derive(Clone, Copy)]
 pub struct Extent {
     pub reply: u8,
     pub count: u8,

@@ -9,7 +9,7 @@ use field::PageNo;
 use tree::well;
 
 // The row that is new: none, the record put, or an entry with this key to this page.
-#[derive(Drop)]
+#[derive(Clone, Copy)]
 pub enum More {
     Nothing,
     Record,
@@ -18,7 +18,7 @@ pub enum More {
 
 // The page with this letter and its own spare bytes, or zeros; its rows have `size` bytes: `many` of the source page from the row `from` on,
 // the new one, then `rest` from the row `next` on.
-#[derive(Drop)]
+#[derive(Clone, Copy)]
 pub struct Draft {
     pub page: PageNo,
     pub sign: u8,

@@ -9,7 +9,7 @@ use crate::draft::Draft;
 use field::PageNo;
 
 // The first `count` drafts are listed; the reply is 0 where the pages can be changed.
-#[derive(Drop)]
+#[derive(Clone, Copy)]
 pub struct Plan {
     pub reply: u8,
     pub count: u8,

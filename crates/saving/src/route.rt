@@ -12,7 +12,7 @@ use tree::well;
 
 // A key; the base page and the place of its entry in the root, the leaf and the place of its entry in the base page, and in the leaf the
 // place of the key's record, or where it would stand, and the place behind it.
-#[derive(Drop)]
+#[derive(Clone, Copy)]
 pub struct Route {
     pub key: u32,
     pub base: PageNo,

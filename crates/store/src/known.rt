@@ -6,14 +6,14 @@ use logs::scan::Scan;
 
 // Bytes used and bytes forced of the log.
 #[repr(C)]
-#[derive(Drop)]
+#[derive(Clone, Copy)]
 pub struct Numbers {
     pub used: u32,
     pub forced: u32,
 }
 
 // A reply, and the numbers as they are afterwards.
-#[derive(Drop)]
+#[derive(Clone, Copy)]
 pub struct Answer {
     pub reply: u8,
     pub numbers: Numbers,

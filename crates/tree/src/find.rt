@@ -9,7 +9,7 @@ ghost use Rattle.tree.specs.Way.{last_to, passable, way_down, way_on, record_in,
 use page::{form, view};
 
 // The page below, or the reply where the way ends.
-#[derive(Drop)]
+#[derive(Clone, Copy)]
 pub enum Way {
     Refused(u8),
     To(usize),
@@ -17,7 +17,7 @@ pub enum Way {
 
 // What find returns: its reply, and the ten value bytes, zeros where there is none.
 #[repr(C)]
-#[derive(Drop)]
+#[derive(Clone, Copy)]
 pub struct Found {
     pub reply: u8,
     pub value: [u8; 10],

@@ -10,14 +10,14 @@ ghost use Rattle.tree.specs.Walk.{Ascending, keys_within};
 use crate::{walk, well};
 
 // How many records are written, and whether a further one did not fit.
-#[derive(Drop)]
+#[derive(Clone, Copy)]
 struct Run {
     count: usize,
     more: bool,
 }
 
 // What list returns beside its reply.
-#[derive(Drop)]
+#[derive(Clone, Copy)]
 pub struct Listed {
     pub count: u32,
     pub more: bool,

@@ -9,7 +9,7 @@ use crate::well;
 
 // A position: how many entries of the root and of the base page are passed, and the record on the leaf page. Leaf page 0: none is left.
 #[repr(C)]
-#[derive(Drop)]
+#[derive(Clone, Copy)]
 pub struct Place {
     pub root: usize,
     pub base: usize,

@@ -11,7 +11,7 @@ use field::PageNo;
 
 // The unit's type and fill, its base pages and leaves, of which the first base_count and leaf_count are listed and the others are zero,
 // and its destination.
-#[derive(Drop)]
+#[derive(Clone, Copy)]
 pub struct Choice {
     pub found: bool,
     pub kind: u8,

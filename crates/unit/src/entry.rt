@@ -10,7 +10,7 @@ use field::PageNo;
 use tree::well;
 
 // The key of the lowest entry, if there is one.
-#[derive(Drop)]
+#[derive(Clone, Copy)]
 pub enum Lowest {
     Nothing,
     Key(u32),

@@ -15,7 +15,7 @@ use page::bounds;
 use tree::well;
 
 // The first misplaced leaf: the page where it belongs, its base page and its own page.
-#[derive(Drop)]
+#[derive(Clone, Copy)]
 pub enum Stray {
     Nowhere,
     At {

@@ -13,7 +13,7 @@ use logs::{kind, steps};
 use tree::well;
 
 // The bytes of the records to come, and how many records these are.
-#[derive(Drop)]
+#[derive(Clone, Copy)]
 pub struct Rest {
     pub bytes: usize,
     pub steps: usize,

@@ -1,4 +1,5 @@
 // What recovery answers, and the parts of it that want no unit: its refusals, the test of the pages' numbers, and the accepted answer.
+#![tactic(auto)]
 ghost use Rattle.std.specs.Prelude.{◌≡◌, ◌-◌, ◌≤◌, length};
 ghost use Rattle.field.specs.Bytes.{put, zeroes};
 ghost use Rattle.page.specs.Pages.{pages};
@@ -10,14 +11,14 @@ use store::Numbers;
 
 // The reply, and how many records were appended.
 #[repr(C)]
-#[derive(Drop)]
+#[derive(Clone, Copy)]
 pub struct Recovered {
     pub reply: u8,
     pub count: u32,
 }
 
 // What recovery returns, and the numbers as they are afterwards.
-#[derive(Drop)]
+#[derive(Clone, Copy)]
 pub struct RecoverAnswer {
     pub recovered: Recovered,
     pub numbers: Numbers,

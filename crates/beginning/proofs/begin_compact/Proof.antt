@@ -15,61 +15,61 @@ use Rattle.beginning.proofs.begin_compact.Tie as tie
 kept-requires : tie.Need-kept-requires
 kept-requires c κs = search rules
 
-returns : tie.Need-returns
-returns c = begin-work _ _ _ _ _ _ _ (compact-is _ _ _ _ _) _ _ _ c.kept.ensures c.before.if1.true
+returns : tie.Need-returns-then-work-ne16384
+returns c = begin-work _ _ _ _ _ _ _ (compact-is _ _ _ _ _) _ _ _ c.kept.ensures c.before.if-work-ne16384.true
 
-kept-requires-2 : tie.Need-kept-requires-2
+kept-requires-2 : tie.Need-kept-requires-then-log-ne8192
 kept-requires-2 c κs = search rules
 
-returns-2 : tie.Need-returns-2
+returns-2 : tie.Need-returns-then-log-ne8192
 returns-2 c =
-    begin-log _ _ _ _ _ _ _ (compact-is _ _ _ _ _) _ _ _ c.kept2.ensures c.before.before.if1.false c.before.if2.true
+    begin-log _ _ _ _ _ _ _ (compact-is _ _ _ _ _) _ _ _ c.kept-then-log-ne8192.ensures c.before.before.if-work-ne16384.false c.before.if-log-ne8192.true
 
-scan-log-requires : tie.Need-scan-log-requires
+scan-log-requires : tie.Need-scan_log-s-requires
 scan-log-requires c κs = search rules
 
 knows-requires : tie.Need-knows-requires
 knows-requires c κs = search rules
 
-kept-requires-3 : tie.Need-kept-requires-3
+kept-requires-3 : tie.Need-kept-requires-then-not-knows
 kept-requires-3 c κs = search rules
 
-same_length : tie.Need-same-length
+same_length : tie.Need-shape_of-log-then-not-knows
 same_length c = search rules
 
-returns-3 : tie.Need-returns-3
+returns-3 : tie.Need-returns-then-not-knows
 returns-3 c =
     let k = c.before.before in
     let s = k.before in
     let l = s.before.before in
-    begin-form _ _ _ _ _ _ _ (compact-is _ _ _ _ _) l.before.if1.false l.if2.false _ s.scan-log.ensures _ _ _ c.kept3.ensures
-    (sym k.knows.ensures ∙ not-true _ c.before.if3.true)
+    begin-form _ _ _ _ _ _ _ (compact-is _ _ _ _ _) l.before.if-work-ne16384.false l.if-log-ne8192.false _ s.scan_log-s.ensures _ _ _ c.kept-then-not-knows.ensures
+    (sym k.knows.ensures ∙ not-true _ c.before.if-not-knows.true)
 
-kept-requires-4 : tie.Need-kept-requires-4
+kept-requires-4 : tie.Need-kept-requires-then-fill-gt15
 kept-requires-4 c κs = search rules
 
-same-length-2 : tie.Need-same-length-2
+same-length-2 : tie.Need-shape_of-log-then-fill-gt15
 same-length-2 c = search rules
 
-returns-4 : tie.Need-returns-4
+returns-4 : tie.Need-returns-then-fill-gt15
 returns-4 c =
     let i = c.before.before in
     let k = i.before in
     let s = k.before in
     let l = s.before.before in
-    compact-fill _ _ _ _ _ l.before.if1.false l.if2.false _ s.scan-log.ensures (sym k.knows.ensures ∙ not-false _ i.if3.false) _ _ _ c.kept4.ensures
-    c.before.if4.true
+    compact-fill _ _ _ _ _ l.before.if-work-ne16384.false l.if-log-ne8192.false _ s.scan_log-s.ensures (sym k.knows.ensures ∙ not-false _ i.if-not-knows.false) _ _ _ c.kept-then-fill-gt15.ensures
+    c.before.if-fill-gt15.true
 
-unready-requires : tie.Need-unready-requires
+unready-requires : tie.Need-unready-reply-requires
 unready-requires c κs = search rules
 
-kept-requires-5 : tie.Need-kept-requires-5
+kept-requires-5 : tie.Need-kept-requires-then-reply-ne0
 kept-requires-5 c κs = search rules
 
-same-length-3 : tie.Need-same-length-3
+same-length-3 : tie.Need-shape_of-log-then-reply-ne0
 same-length-3 c = search rules
 
-returns-5 : tie.Need-returns-5
+returns-5 : tie.Need-returns-then-reply-ne0
 returns-5 c =
     let r = c.before.before in
     let f = r.before.before in
@@ -77,27 +77,27 @@ returns-5 c =
     let k = i.before in
     let s = k.before in
     let l = s.before.before in
-    let a = l.before.if1.false in
-    let b = l.if2.false in
-    let e = s.scan-log.ensures in
-    let n = sym k.knows.ensures ∙ not-false _ i.if3.false in
-    begin-tests _ _ _ _ a b _ e n _ _ (compact-with _ _ _ _ _ a b _ e n f.if4.false) _ _ _ _ c.kept5.ensures r.unready.ensures c.before.if5.true
+    let a = l.before.if-work-ne16384.false in
+    let b = l.if-log-ne8192.false in
+    let e = s.scan_log-s.ensures in
+    let n = sym k.knows.ensures ∙ not-false _ i.if-not-knows.false in
+    begin-tests _ _ _ _ a b _ e n _ _ (compact-with _ _ _ _ _ a b _ e n f.if-fill-gt15.false) _ _ _ _ c.kept-then-reply-ne0.ensures r.unready-reply.ensures c.before.if-reply-ne0.true
 
-choose-compact-requires : tie.Need-choose-compact-requires
+choose-compact-requires : tie.Need-choose_compact-c-requires
 choose-compact-requires c κs =
     let r = c.before in
     let f = r.before.before in
     let l = f.before.before.before.before.before in
-    let t = ready-facts _ _ (sym c.if5.false ∙ r.unready.ensures) in
-    (record { whole = l.before.if1.false; forms = t.0 }, t.1, f.if4.false)
+    let t = ready-facts _ _ (sym c.if-reply-ne0.false ∙ r.unready-reply.ensures) in
+    (record { whole = l.before.if-work-ne16384.false; forms = t.0 }, t.1, f.if-fill-gt15.false)
 
-kept-requires-6 : tie.Need-kept-requires-6
+kept-requires-6 : tie.Need-kept-requires-then-not-c
 kept-requires-6 c κs = search rules
 
-same-length-4 : tie.Need-same-length-4
+same-length-4 : tie.Need-shape_of-log-then-not-c
 same-length-4 c = search rules
 
-returns-6 : tie.Need-returns-6
+returns-6 : tie.Need-returns-then-not-c
 returns-6 c =
     let q = c.before.before.before in
     let r = q.before.before in
@@ -106,12 +106,12 @@ returns-6 c =
     let k = i.before in
     let s = k.before in
     let l = s.before.before in
-    let a = l.before.if1.false in
-    let b = l.if2.false in
-    let e = s.scan-log.ensures in
-    let n = sym k.knows.ensures ∙ not-false _ i.if3.false in
-    begin-nothing _ _ _ _ a b _ e n _ _ (compact-with _ _ _ _ _ a b _ e n f.if4.false) _ r.unready.ensures q.before.if5.false _ q.choose-compact.ensures
-    _ _ _ c.kept6.ensures (not-true _ c.before.if6.true)
+    let a = l.before.if-work-ne16384.false in
+    let b = l.if-log-ne8192.false in
+    let e = s.scan_log-s.ensures in
+    let n = sym k.knows.ensures ∙ not-false _ i.if-not-knows.false in
+    begin-nothing _ _ _ _ a b _ e n _ _ (compact-with _ _ _ _ _ a b _ e n f.if-fill-gt15.false) _ r.unready-reply.ensures q.before.if-reply-ne0.false _ q.choose_compact-c.ensures
+    _ _ _ c.kept-then-not-c.ensures (not-true _ c.before.if-not-c.true)
 
 begun-requires : tie.Need-begun-requires
 begun-requires c κs =
@@ -123,22 +123,22 @@ begun-requires c κs =
     let k = i.before in
     let s = k.before in
     let l = s.before.before in
-    let a = l.before.if1.false in
-    let b = l.if2.false in
-    let n = sym k.knows.ensures ∙ not-false _ i.if3.false in
-    let t = ready-facts _ _ (sym q.before.if5.false ∙ r.unready.ensures) in
+    let a = l.before.if-work-ne16384.false in
+    let b = l.if-log-ne8192.false in
+    let n = sym k.knows.ensures ∙ not-false _ i.if-not-knows.false in
+    let t = ready-facts _ _ (sym q.before.if-reply-ne0.false ∙ r.unready-reply.ensures) in
     let w = l.before.before.before.before.args.work.now in
-    let y : Bytes w = λ j. omega (arith, l.before.before.before.shared-slice-known.given j) in (
+    let y : Bytes w = λ j. omega (arith, l.before.before.before.shared_slice_known-1.given j) in (
       a,
       b,
-      begin-inside _ _ w _ [] b _ s.scan-log.ensures n,
-      compact-writable _ (record { whole = a; bytes = y; form = t.0; tree = t.1 }) _ (not-false _ p.if6.false) _ _ f.if4.false q.choose-compact.ensures,
+      begin-inside _ _ w _ [] b _ s.scan_log-s.ensures n,
+      compact-writable _ (record { whole = a; bytes = y; form = t.0; tree = t.1 }) _ (not-false _ p.if-not-c.false) _ _ f.if-fill-gt15.false q.choose_compact-c.ensures,
     )
 
-same-length-5 : tie.Need-same-length-5
+same-length-5 : tie.Need-shape_of-log
 same-length-5 c = search rules
 
-returns-7 : tie.Need-returns-7
+returns-7 : tie.Need-returns
 returns-7 c =
     let o = c.before.before in
     let p = o.before.before in
@@ -149,15 +149,15 @@ returns-7 c =
     let k = i.before in
     let s = k.before in
     let l = s.before.before in
-    let a = l.before.if1.false in
-    let b = l.if2.false in
-    let e = s.scan-log.ensures in
-    let n = sym k.knows.ensures ∙ not-false _ i.if3.false in
-    begin-goes _ _ _ _ a b _ e n _ _ (compact-with _ _ _ _ _ a b _ e n f.if4.false) _ r.unready.ensures q.before.if5.false _ q.choose-compact.ensures _
-    (not-false _ p.if6.false) o.begun.ensures
+    let a = l.before.if-work-ne16384.false in
+    let b = l.if-log-ne8192.false in
+    let e = s.scan_log-s.ensures in
+    let n = sym k.knows.ensures ∙ not-false _ i.if-not-knows.false in
+    begin-goes _ _ _ _ a b _ e n _ _ (compact-with _ _ _ _ _ a b _ e n f.if-fill-gt15.false) _ r.unready-reply.ensures q.before.if-reply-ne0.false _ q.choose_compact-c.ensures _
+    (not-false _ p.if-not-c.false) o.begun.ensures
 
-pub begin-compact-spec : {M : Type 1} → statement M
-begin-compact-spec =
+pub begin_compact_spec : {M : Type 1} → statement M
+begin_compact_spec =
     tie.close
     (tie.spec
     kept-requires

@@ -3,13 +3,13 @@ use Rattle.field.specs.Test.{pick}
 use Rattle.checkpointing.proofs.stays.Statement.{statement}
 use Rattle.checkpointing.proofs.stays.Tie as tie
 
-returns : tie.Need-returns
+returns : tie.Need-returns-then-clear
 unfolding pick
-returns c = rw c.if1.true
+returns c = rw c.if-clear.true
 
-returns-2 : tie.Need-returns-2
+returns-2 : tie.Need-returns
 unfolding pick
-returns-2 c = rw c.if1.false
+returns-2 c = rw c.if-clear.false
 
-pub stays-spec : {M : Type 1} → statement M
-stays-spec = tie.close (tie.spec returns returns-2)
+pub stays_spec : {M : Type 1} → statement M
+stays_spec = tie.close (tie.spec returns returns-2)

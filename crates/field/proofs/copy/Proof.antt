@@ -8,34 +8,34 @@ use Rattle.field.proofs.Part.{copy-none!, copy-more!, copy-all!, length-set-of! 
 use Rattle.field.proofs.copy.Statement.{statement}
 use Rattle.field.proofs.copy.Tie as tie
 
-abbrev invariant-loop : tie.invariant-loop
+abbrev invariant-loop : tie.invariant-loop-i
 invariant-loop s₀ at rs i₀ s i = (i ≤ length rs) × (length s ≡ length s₀) × (s ≡ paste s₀ at rs i)
 
-abbrev decreases-loop : tie.decreases-loop
+abbrev decreases-loop : tie.decreases-loop-i
 decreases-loop s₀ at rs i₀ s i = length rs - i
 
-loop-holds : tie.Need-loop-init invariant-loop decreases-loop
+loop-holds : tie.Need-loop-i-init invariant-loop decreases-loop
 loop-holds c = (omega arith, refl, search copy-none!)
 
-shared-slice-read-s : tie.Need-shared-slice-read-s invariant-loop decreases-loop
+shared-slice-read-s : tie.Need-bounds-rs-i invariant-loop decreases-loop
 shared-slice-read-s c = omega arith
 
-add-s : tie.Need-overflow-add-s invariant-loop decreases-loop
+add-s : tie.Need-overflow_add-s invariant-loop decreases-loop
 add-s c = omega arith
 
-slice-write-s : tie.Need-slice-write-s invariant-loop decreases-loop
+slice-write-s : tie.Need-bounds-s-at invariant-loop decreases-loop
 slice-write-s c = omega arith
 
-add-i : tie.Need-overflow-add-i invariant-loop decreases-loop
+add-i : tie.Need-overflow_add-i invariant-loop decreases-loop
 add-i c = omega arith
 
-loop-less : tie.Need-loop-smaller invariant-loop decreases-loop
+loop-less : tie.Need-loop-i-smaller invariant-loop decreases-loop
 loop-less c = omega arith
 
-loop-again : tie.Need-loop-preserved invariant-loop decreases-loop
+loop-again : tie.Need-loop-i-preserved invariant-loop decreases-loop
 loop-again c = (omega arith, search length-set-of!, search copy-more!)
 
-same_length : tie.Need-same-length invariant-loop decreases-loop
+same_length : tie.Need-shape_of-s invariant-loop decreases-loop
 same_length c = search
 
 returns : tie.Need-returns invariant-loop decreases-loop

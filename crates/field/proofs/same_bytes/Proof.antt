@@ -9,38 +9,38 @@ use Rattle.field.proofs.Same.{same-long!, same-none!, same-more!, same-end! }
 use Rattle.field.proofs.same_bytes.Statement.{statement}
 use Rattle.field.proofs.same_bytes.Tie as tie
 
-abbrev invariant-loop : tie.invariant-loop
+abbrev invariant-loop : tie.invariant-loop-i
 invariant-loop a b ok₀ i₀ ok i = (i ≤ length a) × (same a b ≡ both ok (same (drop i a) (drop i b)))
 
-abbrev decreases-loop : tie.decreases-loop
+abbrev decreases-loop : tie.decreases-loop-i
 decreases-loop a b ok₀ i₀ ok i = length a - i
 
-returns : tie.Need-returns invariant-loop decreases-loop
+returns : tie.Need-returns-then-a-b invariant-loop decreases-loop
 returns c = search same-long!
 
-loop-holds : tie.Need-loop-init invariant-loop decreases-loop
+loop-holds : tie.Need-loop-i-init invariant-loop decreases-loop
 loop-holds c = (omega arith, search same-none!)
 
-shared-slice-read-ok : tie.Need-shared-slice-read-ok invariant-loop decreases-loop
+shared-slice-read-ok : tie.Need-bounds-a-i invariant-loop decreases-loop
 shared-slice-read-ok c = omega arith
 
-shared-slice-read-ok-2 : tie.Need-shared-slice-read-ok-2 invariant-loop decreases-loop
+shared-slice-read-ok-2 : tie.Need-bounds-b-i invariant-loop decreases-loop
 shared-slice-read-ok-2 c = omega arith
 
-add-i : tie.Need-overflow-add-i invariant-loop decreases-loop
+add-i : tie.Need-overflow_add-i invariant-loop decreases-loop
 add-i c = omega arith
 
-loop-less : tie.Need-loop-smaller invariant-loop decreases-loop
+loop-less : tie.Need-loop-i-smaller invariant-loop decreases-loop
 loop-less c = omega arith
 
-loop-again : tie.Need-loop-preserved invariant-loop decreases-loop
+loop-again : tie.Need-loop-i-preserved invariant-loop decreases-loop
 loop-again c = (omega arith, search same-more!)
 
-returns-2 : tie.Need-returns-2 invariant-loop decreases-loop
+returns-2 : tie.Need-returns invariant-loop decreases-loop
 returns-2 c = search same-end!
 
-pub same-bytes-spec : {M : Type 1} → statement M
-same-bytes-spec =
+pub same_bytes_spec : {M : Type 1} → statement M
+same_bytes_spec =
     tie.close
     (tie.spec
     invariant-loop

@@ -13,45 +13,45 @@ use borrow.Author.Rules.{rules}
 use Rattle.field.proofs.zeros_long.Statement.{statement}
 use Rattle.field.proofs.zeros_long.Tie as tie
 
-abbrev invariant-loop : tie.invariant-loop
+abbrev invariant-loop : tie.invariant-loop-at
 invariant-loop s last seen₀ at₀ seen at =
     (all_zero s ≡ both (eqb seen 0) (all_zero (drop at s))) × (eqb seen 0 ≡ true → all_zero (part last 1024 s) ≡ true)
 
-abbrev decreases-loop : tie.decreases-loop
+abbrev decreases-loop : tie.decreases-loop-at
 decreases-loop s last seen₀ at₀ seen at = last - at
 
 zeros-requires : tie.Need-zeros-requires invariant-loop decreases-loop
 zeros-requires c κs = search rules
 
-returns : tie.Need-returns invariant-loop decreases-loop
+returns : tie.Need-returns-then-s-lt1024 invariant-loop decreases-loop
 returns c = search
 
-sub-last : tie.Need-overflow-sub-last invariant-loop decreases-loop
+sub-last : tie.Need-overflow_sub-last invariant-loop decreases-loop
 sub-last c = omega arith
 
-block-requires : tie.Need-block-requires invariant-loop decreases-loop
+block-requires : tie.Need-block-seen-requires invariant-loop decreases-loop
 block-requires c κs = omega arith
 
-loop-holds : tie.Need-loop-init invariant-loop decreases-loop
-loop-holds c = (search long-none!, λ z. sym c.block.ensures ∙ z)
+loop-holds : tie.Need-loop-at-init invariant-loop decreases-loop
+loop-holds c = (search long-none!, λ z. sym c.block-seen.ensures ∙ z)
 
-block-requires-2 : tie.Need-block-requires-2 invariant-loop decreases-loop
+block-requires-2 : tie.Need-block-seen-requires-in-loop-at invariant-loop decreases-loop
 block-requires-2 c κs = omega arith
 
-add_at : tie.Need-overflow-add-at invariant-loop decreases-loop
+add_at : tie.Need-overflow_add-at invariant-loop decreases-loop
 add_at c = omega arith
 
-loop-less : tie.Need-loop-smaller invariant-loop decreases-loop
+loop-less : tie.Need-loop-at-smaller invariant-loop decreases-loop
 loop-less c = omega arith
 
-loop-again : tie.Need-loop-preserved invariant-loop decreases-loop
+loop-again : tie.Need-loop-at-preserved invariant-loop decreases-loop
 loop-again c = (search long-more!, search long-keeps!)
 
-returns-2 : tie.Need-returns-2 invariant-loop decreases-loop
+returns-2 : tie.Need-returns invariant-loop decreases-loop
 returns-2 c = search long-all!
 
-pub zeros-long-spec : {M : Type 1} → statement M
-zeros-long-spec =
+pub zeros_long_spec : {M : Type 1} → statement M
+zeros_long_spec =
     tie.close
     (tie.spec
     invariant-loop

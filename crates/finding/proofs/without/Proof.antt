@@ -8,5 +8,5 @@ returns : tie.Need-returns
 unfolding zeroes
 returns c = (refl, refl, refl, refl)
 
-pub without-spec : {M : Type 1} → statement M
-without-spec = tie.close (tie.spec returns)
+pub without_spec : {M : Type 1} → statement M
+without_spec = tie.close (tie.spec returns)

@@ -9,90 +9,90 @@ use Rattle.flushing.proofs.flush.Tie as tie
 kept-requires : tie.Need-kept-requires
 kept-requires c κs = search rules
 
-returns : tie.Need-returns
-returns c = flush-work _ _ _ _ _ _ _ _ _ c.kept.ensures c.before.if1.true
+returns : tie.Need-returns-then-work-ne16384
+returns c = flush-work _ _ _ _ _ _ _ _ _ c.kept.ensures c.before.if-work-ne16384.true
 
-kept-requires-2 : tie.Need-kept-requires-2
+kept-requires-2 : tie.Need-kept-requires-then-store-ne16384
 kept-requires-2 c κs = search rules
 
-returns-2 : tie.Need-returns-2
+returns-2 : tie.Need-returns-then-store-ne16384
 returns-2 c =
-    flush-store _ _ _ _ _ _ _ _ _ c.kept2.ensures c.before.before.if1.false c.before.if2.true
+    flush-store _ _ _ _ _ _ _ _ _ c.kept-then-store-ne16384.ensures c.before.before.if-work-ne16384.false c.before.if-store-ne16384.true
 
-kept-requires-3 : tie.Need-kept-requires-3
+kept-requires-3 : tie.Need-kept-requires-then-log-ne8192
 kept-requires-3 c κs = search rules
 
-returns-3 : tie.Need-returns-3
+returns-3 : tie.Need-returns-then-log-ne8192
 returns-3 c =
-    flush-log _ _ _ _ _ _ _ _ _ c.kept3.ensures c.before.before.before.if1.false c.before.before.if2.false c.before.if3.true
+    flush-log _ _ _ _ _ _ _ _ _ c.kept-then-log-ne8192.ensures c.before.before.before.if-work-ne16384.false c.before.before.if-store-ne16384.false c.before.if-log-ne8192.true
 
-scan-log-requires : tie.Need-scan-log-requires
+scan-log-requires : tie.Need-scan_log-s-requires
 scan-log-requires c κs = search rules
 
 knows-requires : tie.Need-knows-requires
 knows-requires c κs = search rules
 
-kept-requires-4 : tie.Need-kept-requires-4
+kept-requires-4 : tie.Need-kept-requires-then-not-knows
 kept-requires-4 c κs = search rules
 
-returns-4 : tie.Need-returns-4
+returns-4 : tie.Need-returns-then-not-knows
 returns-4 c =
     let k = c.before.before in
     let l = k.before.before in
-    flush-form _ _ _ _ _ _ _ _ _ l.before.before.if1.false l.before.if2.false l.if3.false _ k.before.scan-log.ensures c.kept4.ensures
-    (sym k.knows.ensures ∙ not-true _ c.before.if4.true)
+    flush-form _ _ _ _ _ _ _ _ _ l.before.before.if-work-ne16384.false l.before.if-store-ne16384.false l.if-log-ne8192.false _ k.before.scan_log-s.ensures c.kept-then-not-knows.ensures
+    (sym k.knows.ensures ∙ not-true _ c.before.if-not-knows.true)
 
-kept-requires-5 : tie.Need-kept-requires-5
+kept-requires-5 : tie.Need-kept-requires-then-p-ge64
 kept-requires-5 c κs = search rules
 
-returns-5 : tie.Need-returns-5
+returns-5 : tie.Need-returns-then-p-ge64
 returns-5 c =
     let i = c.before.before in
     let k = i.before in
     let l = k.before.before in
-    flush-past _ _ _ _ _ _ _ _ _ l.before.before.if1.false l.before.if2.false l.if3.false _ k.before.scan-log.ensures
-    (sym k.knows.ensures ∙ not-false _ i.if4.false) c.kept5.ensures c.before.if5.true
+    flush-past _ _ _ _ _ _ _ _ _ l.before.before.if-work-ne16384.false l.before.if-store-ne16384.false l.if-log-ne8192.false _ k.before.scan_log-s.ensures
+    (sym k.knows.ensures ∙ not-false _ i.if-not-knows.false) c.kept-then-p-ge64.ensures c.before.if-p-ge64.true
 
-cast-t12 : tie.Need-overflow-cast-t12
+cast-t12 : tie.Need-overflow_cast-page
 cast-t12 c = search rules
 
-number-at-requires : tie.Need-number-at-requires
+number-at-requires : tie.Need-number_at-last-requires
 number-at-requires c κs = search rules
 
-kept-requires-6 : tie.Need-kept-requires-6
+kept-requires-6 : tie.Need-kept-requires-then-s-last
 kept-requires-6 c κs = search rules
 
-returns-6 : tie.Need-returns-6
+returns-6 : tie.Need-returns-then-s-last
 returns-6 c =
     let m = c.before.before.before.before in
     let i = m.before.before in
     let k = i.before in
     let l = k.before.before in
-    flush-early _ _ _ _ _ _ _ _ _ l.before.before.if1.false l.before.if2.false l.if3.false _ k.before.scan-log.ensures
-    (sym k.knows.ensures ∙ not-false _ i.if4.false) m.before.if5.false _ m.number_at.ensures c.kept6.ensures c.before.if6.true
+    flush-early _ _ _ _ _ _ _ _ _ l.before.before.if-work-ne16384.false l.before.if-store-ne16384.false l.if-log-ne8192.false _ k.before.scan_log-s.ensures
+    (sym k.knows.ensures ∙ not-false _ i.if-not-knows.false) m.before.if-p-ge64.false _ m.number_at-last.ensures c.kept-then-s-last.ensures c.before.if-s-last.true
 
-copy-page-requires : tie.Need-copy-page-requires
+copy-page-requires : tie.Need-copy_page-requires
 copy-page-requires c κs = search rules
 
-kept-requires-7 : tie.Need-kept-requires-7
+kept-requires-7 : tie.Need-kept-requires-2
 kept-requires-7 c κs = search rules
 
-same_length : tie.Need-same-length
+same_length : tie.Need-shape_of-store
 same_length c = search rules
 
-returns-7 : tie.Need-returns-7
+returns-7 : tie.Need-returns
 returns-7 c =
     let o = c.before.before.before in
     let m = o.before.before.before.before.before in
     let i = m.before.before in
     let k = i.before in
     let l = k.before.before in
-    flush-all _ _ _ _ _ _ _ _ _ l.before.before.if1.false l.before.if2.false l.if3.false _ k.before.scan-log.ensures
-    (sym k.knows.ensures ∙ not-false _ i.if4.false) m.before.if5.false _ m.number_at.ensures c.kept7.ensures o.before.before.if6.false _
-    o.copy-page.ensures
+    flush-all _ _ _ _ _ _ _ _ _ l.before.before.if-work-ne16384.false l.before.if-store-ne16384.false l.if-log-ne8192.false _ k.before.scan_log-s.ensures
+    (sym k.knows.ensures ∙ not-false _ i.if-not-knows.false) m.before.if-p-ge64.false _ m.number_at-last.ensures c.kept-2.ensures o.before.before.if-s-last.false _
+    o.copy_page.ensures
 
-pub flush-spec : {M : Type 1} → statement M
-flush-spec =
+pub flush_spec : {M : Type 1} → statement M
+flush_spec =
     tie.close
     (tie.spec
     kept-requires

@@ -6,22 +6,22 @@ use borrow.Author.Rules.{rules}
 use Rattle.flushing.proofs.number_at.Statement.{statement}
 use Rattle.flushing.proofs.number_at.Tie as tie
 
-cast-at : tie.Need-overflow-cast-at
+cast-at : tie.Need-overflow_cast-at
 cast-at c = search rules
 
-mul_at : tie.Need-overflow-mul-at
+mul_at : tie.Need-overflow_mul-at
 mul_at c = search rules
 
-add-number : tie.Need-overflow-add-number
+add-number : tie.Need-overflow_add-at
 add-number c = search rules
 
-sub_number : tie.Need-overflow-sub-number
+sub_number : tie.Need-slice_bounds-number-count
 sub_number c = search rules
 
-part-number-start : tie.Need-slice-bounds-number-start
+part-number-start : tie.Need-slice_bounds-number-start
 part-number-start c = search rules
 
-part-number-end : tie.Need-slice-bounds-number-end
+part-number-end : tie.Need-slice_bounds-number-end
 part-number-end c = search rules
 
 number-requires : tie.Need-number-requires
@@ -30,8 +30,8 @@ number-requires c κs = search rules
 returns : tie.Need-returns
 returns c = c.number.ensures ∙ ap number (lent-page _ _)
 
-pub number-at-spec : {M : Type 1} → statement M
-number-at-spec =
+pub number_at_spec : {M : Type 1} → statement M
+number_at_spec =
     tie.close
     (tie.spec
     cast-at

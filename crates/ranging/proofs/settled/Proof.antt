@@ -5,17 +5,17 @@ use borrow.Author.Rules.{rules}
 use Rattle.ranging.proofs.settled.Statement.{statement}
 use Rattle.ranging.proofs.settled.Tie as tie
 
-has-row-requires : tie.Need-has-row-requires
+has-row-requires : tie.Need-has_row-requires
 has-row-requires c κs = search rules
 
-returns : tie.Need-returns
-returns c = sym (settled_here _ _ (sym c.before.has-row.ensures ∙ c.if1.true))
+returns : tie.Need-returns-then-has_row
+returns c = sym (settled_here _ _ (sym c.before.has_row.ensures ∙ c.if-has_row.true))
 
-leaf-after-requires : tie.Need-leaf-after-requires
+leaf-after-requires : tie.Need-leaf_after-requires
 leaf-after-requires c κs = search rules
 
-returns-2 : tie.Need-returns-2
-returns-2 c = c.leaf-after.ensures ∙ sym (settled_on _ _ (sym c.before.before.has-row.ensures ∙ c.before.if1.false))
+returns-2 : tie.Need-returns
+returns-2 c = c.leaf_after.ensures ∙ sym (settled_on _ _ (sym c.before.before.has_row.ensures ∙ c.before.if-has_row.false))
 
-pub settled-spec : {M : Type 1} → statement M
-settled-spec = tie.close (tie.spec has-row-requires returns leaf-after-requires returns-2)
+pub settled_spec : {M : Type 1} → statement M
+settled_spec = tie.close (tie.spec has-row-requires returns leaf-after-requires returns-2)

@@ -6,46 +6,46 @@ use borrow.Author.Rules.{rules}
 use Rattle.recovering.proofs.complete.Statement.{statement}
 use Rattle.recovering.proofs.complete.Tie as tie
 
-finish-requires : tie.Need-finish-requires
+finish-requires : tie.Need-finish-f-requires
 finish-requires c κs = search rules
 
-taken-back-requires : tie.Need-taken-back-requires
+taken-back-requires : tie.Need-taken_back-requires
 taken-back-requires c κs =
     let a = c.before.before.before.before.before.before.before.before.before.before.before.before.before in
     (search rules, search rules, found_inside a.args.work.now a.args.log.now a.args.found a.requires)
 
-same_length : tie.Need-same-length
+same_length : tie.Need-shape_of-work-then-f-ne0
 same_length c = search rules
 
-same-length-2 : tie.Need-same-length-2
+same-length-2 : tie.Need-shape_of-log-then-f-ne0
 same-length-2 c = search rules
 
-returns : tie.Need-returns
+returns : tie.Need-returns-then-f-ne0
 returns c =
     let c4 = c.before.before.before.before in
     let c7 = c4.before.before.before in
     let c13 = c7.before.before.before.before.before.before in
     let a = c.before.before.before.before.before.before.before.before.before.before.before.before.before.before.before.before.before.before in
-    let f = c13.finish in
+    let f = c13.finish-f in
     let e = c4.taken_back.ensures in
     (λ w s. complete-stops a.args.work.now a.args.log.now a.args.found a.requires _ _ w s _ _ _ _ f.ensures _ _ f.auto.1.0 e.0 e.1 _ _
-    _ _ c7.if1.true (e.2, e.3, e.4, e.5))
+    _ _ c7.if-f-ne0.true (e.2, e.3, e.4, e.5))
 
-well-formed-requires : tie.Need-well-formed-requires
-well-formed-requires c κs = (c.before.before.before.before.before.before.before.finish.ensures.done c.before.if1.false).form
+well-formed-requires : tie.Need-well_formed-requires
+well-formed-requires c κs = (c.before.before.before.before.before.before.before.finish-f.ensures.done c.before.if-f-ne0.false).form
 
-taken-back-requires-2 : tie.Need-taken-back-requires-2
+taken-back-requires-2 : tie.Need-taken_back-requires-then-not-well_formed
 taken-back-requires-2 c κs =
     let a = c.before.before.before.before.before.before.before.before.before.before.before.before.before.before.before.before in
     (search rules, search rules, found_inside a.args.work.now a.args.log.now a.args.found a.requires)
 
-same-length-3 : tie.Need-same-length-3
+same-length-3 : tie.Need-shape_of-work-then-not-well_formed
 same-length-3 c = search rules
 
-same-length-4 : tie.Need-same-length-4
+same-length-4 : tie.Need-shape_of-log-then-not-well_formed
 same-length-4 c = search rules
 
-returns-2 : tie.Need-returns-2
+returns-2 : tie.Need-returns-then-not-well_formed
 returns-2 c =
     let c4 = c.before.before.before.before in
     let c7 = c4.before.before.before in
@@ -53,34 +53,34 @@ returns-2 c =
     let c10 = c8.before.before in
     let c16 = c10.before.before.before.before.before.before in
     let a = c.before.before.before.before.before.before.before.before.before.before.before.before.before.before.before.before.before.before.before.before.before in
-    let f = c16.finish in
-    let e = c4.taken-back2.ensures in
+    let f = c16.finish-f in
+    let e = c4.taken_back-then-not-well_formed.ensures in
     (λ w s. complete-unwell a.args.work.now a.args.log.now a.args.found a.requires _ _ w s _ _ _ _ f.ensures _ _ f.auto.1.0 e.0 e.1 _
-    _ _ _ c10.if1.false
-    (sym c8.well-formed-2.ensures ∙ not-true _ c7.if2.true) (e.2, e.3, e.4, e.5))
+    _ _ _ c10.if-f-ne0.false
+    (sym c8.well-formed-2.ensures ∙ not-true _ c7.if-not-well_formed.true) (e.2, e.3, e.4, e.5))
 
 accepted-requires : tie.Need-accepted-requires
 accepted-requires c κs =
     let a = c.before.before.before.before.before.before.before.before.before.before.before.before.before.before in
-    let e = c.before.before.before.before.before.before.before.before.before.finish.ensures.done c.before.before.before.if1.false in
+    let e = c.before.before.before.before.before.before.before.before.before.finish-f.ensures.done c.before.before.before.if-f-ne0.false in
     (found_inside a.args.work.now a.args.log.now a.args.found a.requires, e.inside, e.later)
 
-same-length-5 : tie.Need-same-length-5
+same-length-5 : tie.Need-shape_of-work
 same-length-5 c = search rules
 
-same-length-6 : tie.Need-same-length-6
+same-length-6 : tie.Need-shape_of-log
 same-length-6 c = search rules
 
-returns-3 : tie.Need-returns-3
+returns-3 : tie.Need-returns
 returns-3 c =
     let c4 = c.before.before.before.before in
     let c10 = c4.before.before.before.before.before.before in
     let a = c.before.before.before.before.before.before.before.before.before.before.before.before.before.before.before in
-    (λ w s. complete-accepts a.args.work.now a.args.log.now a.args.found a.requires _ _ w s _ _ _ _ c10.finish.ensures _ _ _ _ c4.if1.false
-    (sym c.before.before.well-formed-2.ensures ∙ not-false _ c.before.if2.false) c.accepted.ensures)
+    (λ w s. complete-accepts a.args.work.now a.args.log.now a.args.found a.requires _ _ w s _ _ _ _ c10.finish-f.ensures _ _ _ _ c4.if-f-ne0.false
+    (sym c.before.before.well-formed-2.ensures ∙ not-false _ c.before.if-not-well_formed.false) c.accepted.ensures)
 
-pub complete-spec : {M : Type 1} → statement M
-complete-spec =
+pub complete_spec : {M : Type 1} → statement M
+complete_spec =
     tie.close
     (tie.spec
     finish-requires

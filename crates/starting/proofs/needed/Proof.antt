@@ -7,13 +7,13 @@ use borrow.Author.Rules.{rules}
 use Rattle.starting.proofs.needed.Statement.{statement}
 use Rattle.starting.proofs.needed.Tie as tie
 
-slice-aggregate-put-record : tie.Need-slice-aggregate-put-record
+slice-aggregate-put-record : tie.Need-slice_bounds-put_record-end
 slice-aggregate-put-record c = search rules
 
-put-record-requires : tie.Need-put-record-requires
+put-record-requires : tie.Need-put_record-requires
 put-record-requires c κs = search rules
 
-slice-aggregate-remaining : tie.Need-slice-aggregate-remaining
+slice-aggregate-remaining : tie.Need-slice_bounds-remaining-end
 slice-aggregate-remaining c = search rules
 
 remaining-requires : tie.Need-remaining-requires
@@ -30,8 +30,8 @@ returns c =
     let r = read_back a.args.c _ p.new.0 a.requires.1 refl p.ensures in
     (rw r at c.remaining.ensures.0, rw r at c.remaining.ensures.1)
 
-pub needed-spec : {M : Type 1} → statement M
-needed-spec =
+pub needed_spec : {M : Type 1} → statement M
+needed_spec =
     tie.close
     (tie.spec
     slice-aggregate-put-record

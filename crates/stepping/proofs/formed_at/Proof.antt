@@ -4,25 +4,25 @@ use borrow.Author.Rules.{rules}
 use Rattle.stepping.proofs.formed_at.Statement.{statement}
 use Rattle.stepping.proofs.formed_at.Tie as tie
 
-cast-at : tie.Need-overflow-cast-at
+cast-at : tie.Need-overflow_cast-at
 cast-at c = search rules
 
-mul_at : tie.Need-overflow-mul-at
+mul_at : tie.Need-overflow_mul-at
 mul_at c = search rules
 
-cast-formed : tie.Need-overflow-cast-formed
+cast-formed : tie.Need-overflow_cast-p
 cast-formed c = search rules
 
-add-formed : tie.Need-overflow-add-formed
+add-formed : tie.Need-overflow_add-at
 add-formed c = search rules
 
-sub-formed : tie.Need-overflow-sub-formed
+sub-formed : tie.Need-slice_bounds-formed-count
 sub-formed c = search rules
 
-part-formed-start : tie.Need-slice-bounds-formed-start
+part-formed-start : tie.Need-slice_bounds-formed-start
 part-formed-start c = search rules
 
-part-formed-end : tie.Need-slice-bounds-formed-end
+part-formed-end : tie.Need-slice_bounds-formed-end
 part-formed-end c = search rules
 
 formed-requires : tie.Need-formed-requires
@@ -31,8 +31,8 @@ formed-requires c κs = search rules
 returns : tie.Need-returns
 returns c = search lent-formed!
 
-pub formed-at-spec : {M : Type 1} → statement M
-formed-at-spec =
+pub formed_at_spec : {M : Type 1} → statement M
+formed_at_spec =
     tie.close
     (tie.spec
     cast-at

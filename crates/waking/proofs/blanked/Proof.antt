@@ -20,7 +20,7 @@ clear-requires c κs = search rules
 declined-requires : tie.Need-declined-requires
 declined-requires c κs = search rules
 
-same_length : tie.Need-same-length
+same_length : tie.Need-shape_of-work
 same_length c = search rules
 
 returns : tie.Need-returns
@@ -33,5 +33,5 @@ returns c =
       c.declined.ensures.3,
     )
 
-pub blanked-spec : {M : Type 1} → statement M
-blanked-spec = tie.close (tie.spec clear-requires declined-requires same_length returns)
+pub blanked_spec : {M : Type 1} → statement M
+blanked_spec = tie.close (tie.spec clear-requires declined-requires same_length returns)

@@ -5,15 +5,15 @@ use borrow.Author.Rules.{rules}
 use Rattle.logs.proofs.kind.cell.Statement.{statement}
 use Rattle.logs.proofs.kind.cell.Tie as tie
 
-mul-result : tie.Need-overflow-mul-result
+mul-result : tie.Need-offset_bounds-i
 mul-result c = search rules
 
-array-read-result : tie.Need-array-read-result
+array-read-result : tie.Need-bounds-i
 array-read-result c = search rules
 
 returns : tie.Need-returns
 unfolding kinds tabled
 returns c = refl
 
-pub cell-spec : {M : Type 1} → statement M
-cell-spec = tie.close (tie.spec mul-result array-read-result returns)
+pub cell_spec : {M : Type 1} → statement M
+cell_spec = tie.close (tie.spec mul-result array-read-result returns)

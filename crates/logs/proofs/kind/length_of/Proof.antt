@@ -10,49 +10,49 @@ use Rattle.logs.proofs.kind.length_of.Statement.{statement}
 use Rattle.logs.proofs.kind.length_of.Tie as tie
 
 -- what stands in the table
-fixed : (c : tie.After-cell2) → c.before.cell.result ≡ get_or (tabled kinds) (4 * c.before.before.args.k + 2) 0
-fixed c = c.before.cell.ensures
+fixed : (c : tie.After-cell-each) → c.before.cell-fixed.result ≡ get_or (tabled kinds) (4 * c.before.before.args.k + 2) 0
+fixed c = c.before.cell-fixed.ensures
 
-each : (c : tie.After-cell2) → c.cell2.result ≡ get_or (tabled kinds) (4 * c.before.before.args.k + 3) 0
-each c = c.cell2.ensures
+each : (c : tie.After-cell-each) → c.cell-each.result ≡ get_or (tabled kinds) (4 * c.before.before.args.k + 3) 0
+each c = c.cell-each.ensures
 
 -- and the product is small
-carried : (c : tie.After-cell2) → c.cell2.result * c.before.before.args.n ≤ 3840
-carried c = let a = c.before.before in each-small a.args.k a.args.n c.cell2.result a.requires.0 a.requires.1 (each c)
+carried : (c : tie.After-cell-each) → c.cell-each.result * c.before.before.args.n ≤ 3840
+carried c = let a = c.before.before in each-small a.args.k a.args.n c.cell-each.result a.requires.0 a.requires.1 (each c)
 
-mul-cell : tie.Need-overflow-mul-cell
+mul-cell : tie.Need-overflow_mul-k
 mul-cell c = search rules
 
-add-cell : tie.Need-overflow-add-cell
+add-cell : tie.Need-overflow_add-k
 add-cell c = search rules
 
-cell-requires : tie.Need-cell-requires
+cell-requires : tie.Need-cell-fixed-requires
 cell-requires c κs = search rules
 
-mul-cell-2 : tie.Need-overflow-mul-cell-2
+mul-cell-2 : tie.Need-overflow_mul-k-2
 mul-cell-2 c = search rules
 
-add-cell-2 : tie.Need-overflow-add-cell-2
+add-cell-2 : tie.Need-overflow_add-k-2
 add-cell-2 c = search rules
 
-cell-requires-2 : tie.Need-cell-requires-2
+cell-requires-2 : tie.Need-cell-each-requires
 cell-requires-2 c κs = search rules
 
-mul-result : tie.Need-overflow-mul-result
+mul-result : tie.Need-overflow_mul-result
 mul-result c = omega (arith, carried c)
 
-add-result : tie.Need-overflow-add-result
+add-result : tie.Need-overflow_add-result
 add-result c =
     let a = c.before.before in
-    omega (arith, carried c, fixed-small a.args.k c.before.cell.result a.requires.0 (fixed c))
+    omega (arith, carried c, fixed-small a.args.k c.before.cell-fixed.result a.requires.0 (fixed c))
 
 returns : tie.Need-returns
 returns c =
     let a = c.before.before in
-    length-is a.args.k a.args.n c.before.cell.result c.cell2.result a.requires.0 (fixed c) (each c)
+    length-is a.args.k a.args.n c.before.cell-fixed.result c.cell-each.result a.requires.0 (fixed c) (each c)
 
-pub length-of-spec : {M : Type 1} → statement M
-length-of-spec =
+pub length_of_spec : {M : Type 1} → statement M
+length_of_spec =
     tie.close
     (tie.spec
     mul-cell

@@ -7,24 +7,24 @@ use borrow.Author.Rules.{rules}
 use Rattle.logs.proofs.kind.sign.Statement.{statement}
 use Rattle.logs.proofs.kind.sign.Tie as tie
 
-mul-cell : tie.Need-overflow-mul-cell
+mul-cell : tie.Need-overflow_mul-k
 mul-cell c = search rules
 
-add-cell : tie.Need-overflow-add-cell
+add-cell : tie.Need-overflow_add-k
 add-cell c = search rules
 
 cell-requires : tie.Need-cell-requires
 cell-requires c κs = search rules
 
-cast-result : tie.Need-overflow-cast-result
+cast-result : tie.Need-overflow_cast-result
 cast-result c = omega (arith, c.cell.ensures, (table-row _ c.before.requires).sign, sign-byte _ c.before.requires)
 
 returns : tie.Need-returns
 unfolding kind_at
 returns c = c.cell.ensures ∙ (table-row _ c.before.requires).sign
 
-pub sign-spec : {M : Type 1} → statement M
-sign-spec =
+pub sign_spec : {M : Type 1} → statement M
+sign_spec =
     tie.close
     (tie.spec
     mul-cell

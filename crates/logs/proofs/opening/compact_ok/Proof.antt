@@ -4,34 +4,34 @@ use borrow.Author.Rules.{rules}
 use Rattle.logs.proofs.opening.compact_ok.Statement.{statement}
 use Rattle.logs.proofs.opening.compact_ok.Tie as tie
 
-byte-at-requires : tie.Need-byte-at-requires
+byte-at-requires : tie.Need-byte_at-requires
 byte-at-requires c κs = search rules
 
-returns : tie.Need-returns
+returns : tie.Need-returns-then-byte_at-ne1
 returns c = search compact-bases!
 
-byte-at-requires-2 : tie.Need-byte-at-requires-2
+byte-at-requires-2 : tie.Need-byte_at-leaves-requires
 byte-at-requires-2 c κs = search rules
 
-returns-2 : tie.Need-returns-2
+returns-2 : tie.Need-returns-then-leaves-lt2
 returns-2 c = search compact-few!
 
-returns-3 : tie.Need-returns-3
+returns-3 : tie.Need-returns-then-leaves-gt8
 returns-3 c = search compact-many!
 
-byte-at-requires-3 : tie.Need-byte-at-requires-3
+byte-at-requires-3 : tie.Need-byte_at-fill-requires
 byte-at-requires-3 c κs = search rules
 
-returns-4 : tie.Need-returns-4
+returns-4 : tie.Need-returns-then-fill-lt1
 returns-4 c = search compact-low!
 
-returns-5 : tie.Need-returns-5
+returns-5 : tie.Need-returns-then-fill-gt15
 returns-5 c = search compact-high!
 
-on-leaves-requires : tie.Need-on-leaves-requires
+on-leaves-requires : tie.Need-on_leaves-requires
 on-leaves-requires c κs = search rules
 
-returns-6 : tie.Need-returns-6
+returns-6 : tie.Need-returns-then-not-on_leaves
 returns-6 c = search compact-dest!
 
 get2-requires : tie.Need-get2-requires
@@ -40,17 +40,17 @@ get2-requires c κs = search rules
 get2-requires-2 : tie.Need-get2-requires-2
 get2-requires-2 c κs = search rules
 
-returns-7 : tie.Need-returns-7
+returns-7 : tie.Need-returns-then-dest-get2
 returns-7 c = search compact-first!
 
 listed-requires : tie.Need-listed-requires
 listed-requires c κs = search rules
 
-returns-8 : tie.Need-returns-8
+returns-8 : tie.Need-returns
 returns-8 c = search compact-rest!
 
-pub compact-ok-spec : {M : Type 1} → statement M
-compact-ok-spec =
+pub compact_ok_spec : {M : Type 1} → statement M
+compact_ok_spec =
     tie.close
     (tie.spec
     byte-at-requires

@@ -4,35 +4,35 @@ use borrow.Author.Rules.{rules}
 use Rattle.logs.proofs.opening.swap_ok.Statement.{statement}
 use Rattle.logs.proofs.opening.swap_ok.Tie as tie
 
-byte-at-requires : tie.Need-byte-at-requires
+byte-at-requires : tie.Need-byte_at-bases-requires
 byte-at-requires c κs = search rules
 
-returns : tie.Need-returns
+returns : tie.Need-returns-then-bases-lt1
 returns c = search swap-few!
 
-returns-2 : tie.Need-returns-2
+returns-2 : tie.Need-returns-then-bases-gt2
 returns-2 c = search swap-many!
 
-byte-at-requires-2 : tie.Need-byte-at-requires-2
+byte-at-requires-2 : tie.Need-byte_at-requires
 byte-at-requires-2 c κs = search rules
 
-returns-3 : tie.Need-returns-3
+returns-3 : tie.Need-returns-then-byte_at-ne2
 returns-3 c = search swap-leaves!
 
-byte-at-requires-3 : tie.Need-byte-at-requires-3
+byte-at-requires-3 : tie.Need-byte_at-requires-2
 byte-at-requires-3 c κs = search rules
 
-returns-4 : tie.Need-returns-4
+returns-4 : tie.Need-returns-then-byte_at-ne0
 returns-4 c = search swap-fill!
 
 get2-requires : tie.Need-get2-requires
 get2-requires c κs = search rules
 
-returns-5 : tie.Need-returns-5
+returns-5 : tie.Need-returns
 returns-5 c = search swap-rest!
 
-pub swap-ok-spec : {M : Type 1} → statement M
-swap-ok-spec =
+pub swap_ok_spec : {M : Type 1} → statement M
+swap_ok_spec =
     tie.close
     (tie.spec
     byte-at-requires

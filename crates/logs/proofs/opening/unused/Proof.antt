@@ -7,37 +7,37 @@ use Rattle.logs.proofs.Begun.{unused-none!, unused-stop!, unused-more!, unused-e
 use Rattle.logs.proofs.opening.unused.Statement.{statement}
 use Rattle.logs.proofs.opening.unused.Tie as tie
 
-abbrev invariant-loop : tie.invariant-loop
+abbrev invariant-loop : tie.invariant-loop-i
 invariant-loop m start n i₀ i = (i ≤ n) × (all_zero (part start (2 * n) m) ≡ all_zero (part (start + 2 * i) (2 * (n - i)) m))
 
-abbrev decreases-loop : tie.decreases-loop
+abbrev decreases-loop : tie.decreases-loop-i
 decreases-loop m start n i₀ i = n - i
 
-loop-holds : tie.Need-loop-init invariant-loop decreases-loop
+loop-holds : tie.Need-loop-i-init invariant-loop decreases-loop
 loop-holds c = (omega arith, search unused-none!)
 
-mul-get2 : tie.Need-overflow-mul-get2 invariant-loop decreases-loop
+mul-get2 : tie.Need-overflow_mul-i invariant-loop decreases-loop
 mul-get2 c = omega arith
 
-add-get2 : tie.Need-overflow-add-get2 invariant-loop decreases-loop
+add-get2 : tie.Need-overflow_add-start invariant-loop decreases-loop
 add-get2 c = omega arith
 
 get2-requires : tie.Need-get2-requires invariant-loop decreases-loop
 get2-requires c κs = omega arith
 
-returns : tie.Need-returns invariant-loop decreases-loop
+returns : tie.Need-returns-then-get2-ne0 invariant-loop decreases-loop
 returns c = search unused-stop!
 
-add-i : tie.Need-overflow-add-i invariant-loop decreases-loop
+add-i : tie.Need-overflow_add-i invariant-loop decreases-loop
 add-i c = omega arith
 
-loop-less : tie.Need-loop-smaller invariant-loop decreases-loop
+loop-less : tie.Need-loop-i-smaller invariant-loop decreases-loop
 loop-less c = omega arith
 
-loop-again : tie.Need-loop-preserved invariant-loop decreases-loop
+loop-again : tie.Need-loop-i-preserved invariant-loop decreases-loop
 loop-again c = (omega arith, search unused-more!)
 
-returns-2 : tie.Need-returns-2 invariant-loop decreases-loop
+returns-2 : tie.Need-returns invariant-loop decreases-loop
 returns-2 c = search unused-end!
 
 pub unused_spec : {M : Type 1} → statement M

@@ -20,16 +20,16 @@ get4-requires : tie.Need-get4-requires
 unfolding length_of kind_at kinds
 get4-requires c κs =
     let a = c.before.before.before in
-    let q = bare-point a.args.sign a.args.m.now (c.if1.true ∙ c.before.sign.ensures) in
+    let q = bare-point a.args.sign a.args.m.now (c.if-sign.true ∙ c.before.sign.ensures) in
     omega (arith, a.requires, q.0)
 
-returns : tie.Need-returns
+returns : tie.Need-returns-then-sign
 unfolding bare_key kind_at kinds
-returns c = c.get4.ensures ∙ sym (pick_true _ _ _ (eq-eqb _ _ (c.before.if1.true ∙ c.before.before.sign.ensures)))
+returns c = c.get4.ensures ∙ sym (pick_true _ _ _ (eq-eqb _ _ (c.before.if-sign.true ∙ c.before.before.sign.ensures)))
 
-returns-2 : tie.Need-returns-2
+returns-2 : tie.Need-returns
 unfolding bare_key kind_at kinds
-returns-2 c = sym (pick-false _ _ _ (ne_eqb _ _ (λ q. c.if1.false (q ∙ sym c.before.sign.ensures))))
+returns-2 c = sym (pick-false _ _ _ (ne_eqb _ _ (λ q. c.if-sign.false (q ∙ sym c.before.sign.ensures))))
 
-pub bare-key-spec : {M : Type 1} → statement M
-bare-key-spec = tie.close (tie.spec sign-requires get4-requires returns returns-2)
+pub bare_key_spec : {M : Type 1} → statement M
+bare_key_spec = tie.close (tie.spec sign-requires get4-requires returns returns-2)

@@ -8,7 +8,7 @@ use borrow.Author.Rules.{rules}
 use Rattle.logs.proofs.past.brought_in.Statement.{statement}
 use Rattle.logs.proofs.past.brought_in.Tie as tie
 
-size-of-requires : tie.Need-size-of-requires
+size-of-requires : tie.Need-size_of-requires
 size-of-requires c κs = search rules
 
 went-requires : tie.Need-went-requires
@@ -23,5 +23,5 @@ returns : tie.Need-returns
 unfolding kind_at kinds
 returns c = c.went.ensures ∙ rw c.before.type_size.ensures
 
-pub brought-in-spec : {M : Type 1} → statement M
-brought-in-spec = tie.close (tie.spec size-of-requires went-requires returns)
+pub brought_in_spec : {M : Type 1} → statement M
+brought_in_spec = tie.close (tie.spec size-of-requires went-requires returns)

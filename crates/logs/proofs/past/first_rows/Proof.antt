@@ -4,13 +4,13 @@ use Rattle.field.specs.Test.{pick}
 use Rattle.logs.proofs.past.first_rows.Statement.{statement}
 use Rattle.logs.proofs.past.first_rows.Tie as tie
 
-returns : tie.Need-returns
+returns : tie.Need-returns-then-done-eq0
 unfolding pick
-returns c = rw (eq-eqb _ _ c.if1.true)
+returns c = rw (eq-eqb _ _ c.if-done-eq0.true)
 
-returns-2 : tie.Need-returns-2
+returns-2 : tie.Need-returns
 unfolding pick
-returns-2 c = rw (ne_eqb _ _ c.if1.false)
+returns-2 c = rw (ne_eqb _ _ c.if-done-eq0.false)
 
-pub first-rows-spec : {M : Type 1} → statement M
-first-rows-spec = tie.close (tie.spec returns returns-2)
+pub first_rows_spec : {M : Type 1} → statement M
+first_rows_spec = tie.close (tie.spec returns returns-2)

@@ -6,7 +6,7 @@ use borrow.Author.Rules.{rules}
 use Rattle.logs.proofs.past.imaged.Statement.{statement}
 use Rattle.logs.proofs.past.imaged.Tie as tie
 
-size-of-requires : tie.Need-size-of-requires
+size-of-requires : tie.Need-size_of-requires
 size-of-requires c κs = search rules
 
 went-requires : tie.Need-went-requires
@@ -17,8 +17,8 @@ returns : tie.Need-returns
 unfolding length_of kind_at kinds
 returns c = rw (← c.before.type_size.ensures) c.went.ensures
 
-pub imaged-spec : {M : Type 1} → statement M
-imaged-spec =
+pub imaged_spec : {M : Type 1} → statement M
+imaged_spec =
     tie.close
     (tie.spec
     size-of-requires

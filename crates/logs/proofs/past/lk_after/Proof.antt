@@ -3,13 +3,13 @@ use Rattle.field.specs.Test.{pick}
 use Rattle.logs.proofs.past.lk_after.Statement.{statement}
 use Rattle.logs.proofs.past.lk_after.Tie as tie
 
-returns : tie.Need-returns
+returns : tie.Need-returns-then-compact
 unfolding pick
-returns c = rw c.if1.true
+returns c = rw c.if-compact.true
 
-returns-2 : tie.Need-returns-2
+returns-2 : tie.Need-returns
 unfolding pick
-returns-2 c = rw c.if1.false
+returns-2 c = rw c.if-compact.false
 
-pub lk-after-spec : {M : Type 1} → statement M
-lk-after-spec = tie.close (tie.spec returns returns-2)
+pub lk_after_spec : {M : Type 1} → statement M
+lk_after_spec = tie.close (tie.spec returns returns-2)

@@ -8,10 +8,10 @@ use borrow.Author.Rules.{rules}
 use Rattle.logs.proofs.past.pointed.Statement.{statement}
 use Rattle.logs.proofs.past.pointed.Tie as tie
 
-get4-requires : tie.Need-get4-requires
+get4-requires : tie.Need-get4-key-requires
 get4-requires c κs = search rules
 
-size-of-requires : tie.Need-size-of-requires
+size-of-requires : tie.Need-size_of-requires
 size-of-requires c κs = search rules
 
 went-requires : tie.Need-went-requires
@@ -24,7 +24,7 @@ went-requires c κs =
 
 returns : tie.Need-returns
 unfolding kind_at kinds
-returns c = c.went.ensures ∙ rw (c.before.type_size.ensures, c.before.before.get4.ensures)
+returns c = c.went.ensures ∙ rw (c.before.type_size.ensures, c.before.before.get4-key.ensures)
 
-pub pointed-spec : {M : Type 1} → statement M
-pointed-spec = tie.close (tie.spec get4-requires size-of-requires went-requires returns)
+pub pointed_spec : {M : Type 1} → statement M
+pointed_spec = tie.close (tie.spec get4-requires size-of-requires went-requires returns)

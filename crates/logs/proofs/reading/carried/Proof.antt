@@ -8,14 +8,14 @@ use Rattle.logs.proofs.reading.carried.Tie as tie
 saves-requires : tie.Need-saves-requires
 saves-requires c κs = search rules
 
-returns : tie.Need-returns
-returns c = sym (pick_true _ _ _ (sym c.before.saves.ensures ∙ c.if1.true))
+returns : tie.Need-returns-then-saves
+returns c = sym (pick_true _ _ _ (sym c.before.saves.ensures ∙ c.if-saves.true))
 
-returns-2 : tie.Need-returns-2
-returns-2 c = sym (pick-false _ _ _ (sym c.before.saves.ensures ∙ c.if1.false))
+returns-2 : tie.Need-returns
+returns-2 c = sym (pick-false _ _ _ (sym c.before.saves.ensures ∙ c.if-saves.false))
 
-pub carried-spec : {M : Type 1} → statement M
-carried-spec =
+pub carried_spec : {M : Type 1} → statement M
+carried_spec =
     tie.close
     (tie.spec
     saves-requires

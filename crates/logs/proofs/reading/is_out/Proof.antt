@@ -9,52 +9,52 @@ use borrow.Author.Rules.{rules}
 use Rattle.logs.proofs.reading.is_out.Statement.{statement}
 use Rattle.logs.proofs.reading.is_out.Tie as tie
 
-size-of-requires : tie.Need-size-of-requires
+size-of-requires : tie.Need-size_of-fixed-requires
 size-of-requires c κs = search rules
 
-returns : tie.Need-returns
+returns : tie.Need-returns-then-m-fixed
 returns c = search out-short!
 
-get2-requires : tie.Need-get2-requires
+get2-requires : tie.Need-get2-k-requires
 unfolding length_of kind_at kinds
 get2-requires c κs = omega arith
 
-returns-2 : tie.Need-returns-2
+returns-2 : tie.Need-returns-then-k-lt1
 returns-2 c = search out-few!
 
-returns-3 : tie.Need-returns-3
+returns-3 : tie.Need-returns-then-k-gt15
 returns-3 c = search out-many!
 
-size-of-requires-2 : tie.Need-size-of-requires-2
+size-of-requires-2 : tie.Need-size_of-requires
 size-of-requires-2 c κs = search rules
 
-returns-4 : tie.Need-returns-4
+returns-4 : tie.Need-returns-then-m-size_of
 returns-4 c = search out-long!
 
-cast-records-ascend : tie.Need-overflow-cast-records-ascend
+cast-records-ascend : tie.Need-overflow_cast-k
 cast-records-ascend c = search rules
 
-records-ascend-requires : tie.Need-records-ascend-requires
+records-ascend-requires : tie.Need-records_ascend-requires
 unfolding length_of kind_at kinds
 records-ascend-requires c κs = omega arith
 
-returns-5 : tie.Need-returns-5
+returns-5 : tie.Need-returns-then-not-records_ascend
 returns-5 c = search out-rows!
 
-slice-aggregate-put-paged : tie.Need-slice-aggregate-put-paged
+slice-aggregate-put-paged : tie.Need-slice_bounds-put_paged-end
 slice-aggregate-put-paged c = search rules
 
-put-paged-requires : tie.Need-put-paged-requires
+put-paged-requires : tie.Need-put_paged-requires
 put-paged-requires c κs = search rules
 
-slice-aggregate-same-at : tie.Need-slice-aggregate-same-at
+slice-aggregate-same-at : tie.Need-slice_bounds-same_at-end
 slice-aggregate-same-at c = search rules
 
-same-at-requires : tie.Need-same-at-requires
+same-at-requires : tie.Need-same_at-requires
 unfolding length_of kind_at kinds
 same-at-requires c κs = omega arith
 
-returns-6 : tie.Need-returns-6
+returns-6 : tie.Need-returns
 unfolding length_of kind_at kinds
 returns-6 c =
     let rows = c.before.before.before.before.before.before in
@@ -62,12 +62,12 @@ returns-6 c =
     let fixed = count.before.before in
     let a = fixed.before.before.args in
     let k : a.n.0 ≤ 4294967295 = omega arith in
-    let h : 20 + 16 * count.get2.result ≤ length a.m.now = omega arith in
-    search (out-whole! a.m.now a.n.0 a.org.0 a.dest.0 count.get2.result count.get2.ensures fixed.type_size.result fixed.type_size.ensures
-    rows.records-ascend.result rows.records-ascend.ensures k h)
+    let h : 20 + 16 * count.get2-k.result ≤ length a.m.now = omega arith in
+    search (out-whole! a.m.now a.n.0 a.org.0 a.dest.0 count.get2-k.result count.get2-k.ensures fixed.type_size.result fixed.type_size.ensures
+    rows.records_ascend.result rows.records_ascend.ensures k h)
 
-pub is-out-spec : {M : Type 1} → statement M
-is-out-spec =
+pub is_out_spec : {M : Type 1} → statement M
+is_out_spec =
     tie.close
     (tie.spec
     size-of-requires

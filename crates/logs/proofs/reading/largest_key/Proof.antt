@@ -5,16 +5,16 @@ use borrow.Author.Rules.{rules}
 use Rattle.logs.proofs.reading.largest_key.Statement.{statement}
 use Rattle.logs.proofs.reading.largest_key.Tie as tie
 
-sub-last : tie.Need-overflow-sub-last
+sub-last : tie.Need-overflow_sub-last
 sub-last c = search rules
 
-mul-last : tie.Need-overflow-mul-last
+mul-last : tie.Need-overflow_mul-last
 mul-last c = search rules
 
-add-last : tie.Need-overflow-add-last
+add-last : tie.Need-overflow_add-last
 add-last c = search rules
 
-add-get4 : tie.Need-overflow-add-get4
+add-get4 : tie.Need-overflow_add-last-2
 add-get4 c = search rules
 
 get4-requires : tie.Need-get4-requires
@@ -26,6 +26,6 @@ larger-requires c κs = search rules
 returns : tie.Need-returns
 returns c = search largest-key!
 
-pub largest-key-spec : {M : Type 1} → statement M
-largest-key-spec =
+pub largest_key_spec : {M : Type 1} → statement M
+largest_key_spec =
     tie.close (tie.spec sub-last mul-last add-last add-get4 get4-requires larger-requires returns)

@@ -14,47 +14,47 @@ use Rattle.logs.proofs.scan.image_turn.Statement.{statement}
 use Rattle.logs.proofs.scan.image_turn.Tie as tie
 
 -- the test of the LG
-tested : (c : tie.After-is-image) → let a = c.before.before.before.before.before.args in
-    c.is-image.result ≡ stands_image (a.w.number.0 + 1) (images_on a.l.now a.w) (drop a.w.at a.l.now)
-tested c = rw part_to_end at (c.is-image.ensures _ (sym c.before.before.before.least-page.ensures))
+tested : (c : tie.After-is_image) → let a = c.before.before.before.before.before.args in
+    c.is_image.result ≡ stands_image (a.w.number.0 + 1) (images_on a.l.now a.w) (drop a.w.at a.l.now)
+tested c = rw part_to_end at (c.is_image.ensures _ (sym c.before.before.before.least_page-least.ensures))
 
-least-page-requires : tie.Need-least-page-requires
+least-page-requires : tie.Need-least_page-least-requires
 least-page-requires c κs = c.before.requires.0
 
-sub-is-image : tie.Need-overflow-sub-is-image
+sub-is-image : tie.Need-slice_bounds-is_image-count
 sub-is-image c = omega (arith, c.before.before.requires.0.inside)
 
-part-is-image-start : tie.Need-slice-bounds-is-image-start
+part-is-image-start : tie.Need-slice_bounds-is_image-start
 part-is-image-start c = omega (arith, c.before.before.requires.0.inside)
 
-part-is-image-end : tie.Need-slice-bounds-is-image-end
+part-is-image-end : tie.Need-slice_bounds-is_image-end
 part-is-image-end c = search rules
 
-add-t10 : tie.Need-overflow-add-t10
+add-t10 : tie.Need-overflow_add-w
 add-t10 c = omega (arith, c.before.before.before.before.requires.1)
 
-is-image-requires : tie.Need-is-image-requires
+is-image-requires : tie.Need-is_image-requires
 is-image-requires c κs = omega arith
 
 lost-requires : tie.Need-lost-requires
 lost-requires c κs = search rules
 
-returns : tie.Need-returns
-returns c = lost-pick _ _ _ _ c.lost.ensures (tested c.before.before) c.before.if1.true
+returns : tie.Need-returns-then-not-is_image
+returns c = lost-pick _ _ _ _ c.lost.ensures (tested c.before.before) c.before.if-not-is_image.true
 
 imaged-requires : tie.Need-imaged-requires
 unfolding length_of
 imaged-requires c κs =
     let a = c.before.before.before.before.before.before in
-    let r = image-room _ _ a.args.l.now a.args.w.at _ (tested c.before) c.if1.false in
+    let r = image-room _ _ a.args.l.now a.args.w.at _ (tested c.before) c.if-not-is_image.false in
     let d : a.args.w.done ≤ a.args.w.at = omega (arith, a.requires.0.laid) in
     (a.requires.1, omega (arith, r, a.requires.0.small), d)
 
-returns-2 : tie.Need-returns-2
-returns-2 c = on-pick _ _ _ _ c.imaged.ensures (tested c.before.before) c.before.if1.false
+returns-2 : tie.Need-returns
+returns-2 c = on-pick _ _ _ _ c.imaged.ensures (tested c.before.before) c.before.if-not-is_image.false
 
-pub image-turn-spec : {M : Type 1} → statement M
-image-turn-spec =
+pub image_turn_spec : {M : Type 1} → statement M
+image_turn_spec =
     tie.close
     (tie.spec
     least-page-requires

@@ -8,19 +8,19 @@ use borrow.Author.Rules.{rules}
 use Rattle.logs.proofs.scan.live.Statement.{statement}
 use Rattle.logs.proofs.scan.live.Tie as tie
 
-returns : tie.Need-returns
+returns : tie.Need-returns-then-not-w
 unfolding live
-returns c = sym (both_false _ _ (not-true _ c.if1.true))
+returns c = sym (both_false _ _ (not-true _ c.if-not-w.true))
 
-returns-2 : tie.Need-returns-2
-returns-2 c = live-short _ _ c.if2.true
+returns-2 : tie.Need-returns-then-l-at
+returns-2 c = live-short _ _ c.if-l-at.true
 
-shared-slice-read-result : tie.Need-shared-slice-read-result
+shared-slice-read-result : tie.Need-bounds-l-at
 shared-slice-read-result c = search rules
 
-returns-3 : tie.Need-returns-3
+returns-3 : tie.Need-returns
 unfolding live
-returns-3 c = sym (both_true _ _ (not-false _ c.before.before.if1.false))
+returns-3 c = sym (both_true _ _ (not-false _ c.before.before.if-not-w.false))
 
-pub live-spec : {M : Type 1} → statement M
-live-spec = tie.close (tie.spec returns returns-2 shared-slice-read-result returns-3)
+pub live_spec : {M : Type 1} → statement M
+live_spec = tie.close (tie.spec returns returns-2 shared-slice-read-result returns-3)

@@ -8,5 +8,5 @@ returns : tie.Need-returns
 unfolding lost
 returns c = refl
 
-pub lost-spec : {M : Type 1} → statement M
-lost-spec = tie.close (tie.spec returns)
+pub lost_spec : {M : Type 1} → statement M
+lost_spec = tie.close (tie.spec returns)

@@ -20,22 +20,22 @@ unfolding pick
 kept true n = refl
 kept false n = refl
 
-number-if-requires : tie.Need-number-if-requires
+number-if-requires : tie.Need-number_if-requires
 number-if-requires c κs = search rules
 
-returns : tie.Need-returns
+returns : tie.Need-returns-then-at-forced
 unfolding noted mark
 returns c =
     let e = c.before.before.args.e in
-    ap (mark e.ends) c.number-if.ensures ∙ kept e.ends e.number.0 ∙ ap (pick e.ends e) (sym (pick-false _ _ _ (ne_eqb _ _ c.before.if1.true)))
+    ap (mark e.ends) c.number_if.ensures ∙ kept e.ends e.number.0 ∙ ap (pick e.ends e) (sym (pick-false _ _ _ (ne_eqb _ _ c.before.if-at-forced.true)))
 
-returns-2 : tie.Need-returns-2
+returns-2 : tie.Need-returns-then-e
 unfolding noted
-returns-2 c = sym (pick_true _ _ _ c.if2.true)
+returns-2 c = sym (pick_true _ _ _ c.if-e.true)
 
-returns-3 : tie.Need-returns-3
+returns-3 : tie.Need-returns
 unfolding noted
-returns-3 c = sym (pick-false _ _ _ c.if2.false ∙ pick_true _ _ _ (eq-eqb _ _ c.before.if1.false))
+returns-3 c = sym (pick-false _ _ _ c.if-e.false ∙ pick_true _ _ _ (eq-eqb _ _ c.before.if-at-forced.false))
 
-pub noted-spec : {M : Type 1} → statement M
-noted-spec = tie.close (tie.spec number-if-requires returns returns-2 returns-3)
+pub noted_spec : {M : Type 1} → statement M
+noted_spec = tie.close (tie.spec number-if-requires returns returns-2 returns-3)

@@ -11,54 +11,54 @@ use borrow.Author.Rules.{rules}
 use Rattle.logs.proofs.scan.saving.Statement.{statement}
 use Rattle.logs.proofs.scan.saving.Tie as tie
 
-sub-saves : tie.Need-overflow-sub-saves
-sub-saves c = omega (arith, c.before.before.requires.room c.if1.true)
+sub-saves : tie.Need-slice_bounds-saves-count
+sub-saves c = omega (arith, c.before.before.requires.room c.if-w.true)
 
-part-saves-start : tie.Need-slice-bounds-saves-start
-part-saves-start c = omega (arith, c.before.before.requires.room c.if1.true)
+part-saves-start : tie.Need-slice_bounds-saves-start
+part-saves-start c = omega (arith, c.before.before.requires.room c.if-w.true)
 
-part-saves-end : tie.Need-slice-bounds-saves-end
+part-saves-end : tie.Need-slice_bounds-saves-end
 part-saves-end c = search rules
 
 saves-requires : tie.Need-saves-requires
-saves-requires c κs = rw (part_to_end, length-drop) (omega (arith, c.before.before.before.requires.room c.before.if1.true))
+saves-requires c κs = rw (part_to_end, length-drop) (omega (arith, c.before.before.before.requires.room c.before.if-w.true))
 
-returns : tie.Need-returns
+returns : tie.Need-returns-then-w
 unfolding saving_on
-returns c = rw part_to_end at c.saves.ensures ∙ sym (pick_true _ _ _ c.before.before.if1.true)
+returns c = rw part_to_end at c.saves.ensures ∙ sym (pick_true _ _ _ c.before.before.if-w.true)
 
-sub-if2 : tie.Need-overflow-sub-if2
+sub-if2 : tie.Need-overflow_sub-l
 sub-if2 c = omega (arith, c.before.before.requires.inside)
 
-returns-2 : tie.Need-returns-2
+returns-2 : tie.Need-returns-then-l-at-lt-LB_LONG
 unfolding saving_on
 returns-2 c =
     let a = c.before.before.before.args in
-    let h : length (drop a.w.at a.l.now) < 44 = rw length-drop (omega (arith, c.if2.true)) in
-    sym (pick-false _ _ _ c.before.if1.false ∙ pick-false _ _ _ (lt-leb 44 _ h))
+    let h : length (drop a.w.at a.l.now) < 44 = rw length-drop (omega (arith, c.if-l-at-lt-LB_LONG.true)) in
+    sym (pick-false _ _ _ c.before.if-w.false ∙ pick-false _ _ _ (lt-leb 44 _ h))
 
-sub-saves-2 : tie.Need-overflow-sub-saves-2
+sub-saves-2 : tie.Need-slice_bounds-saves-count-2
 sub-saves-2 c = omega (arith, c.before.before.before.requires.inside)
 
-part-saves-start-2 : tie.Need-slice-bounds-saves-start-2
+part-saves-start-2 : tie.Need-slice_bounds-saves-start-2
 part-saves-start-2 c = omega (arith, c.before.before.before.requires.inside)
 
-part-saves-end-2 : tie.Need-slice-bounds-saves-end-2
+part-saves-end-2 : tie.Need-slice_bounds-saves-end-2
 part-saves-end-2 c = search rules
 
 saves-requires-2 : tie.Need-saves-requires-2
-saves-requires-2 c κs = rw (part_to_end, length-drop) (omega (arith, c.before.if2.false))
+saves-requires-2 c κs = rw (part_to_end, length-drop) (omega (arith, c.before.if-l-at-lt-LB_LONG.false))
 
-returns-3 : tie.Need-returns-3
+returns-3 : tie.Need-returns
 unfolding saving_on
 returns-3 c =
     let o = c.before.before in
     let a = o.before.before.before.args in
-    let h : 44 ≤ length (drop a.w.at a.l.now) = rw length-drop (omega (arith, o.if2.false)) in
-    rw part_to_end at c.saves2.ensures ∙ sym (pick-false _ _ _ o.before.if1.false ∙ pick_true _ _ _ (le-leb 44 _ h))
+    let h : 44 ≤ length (drop a.w.at a.l.now) = rw length-drop (omega (arith, o.if-l-at-lt-LB_LONG.false)) in
+    rw part_to_end at c.saves-2.ensures ∙ sym (pick-false _ _ _ o.before.if-w.false ∙ pick_true _ _ _ (le-leb 44 _ h))
 
-pub saving-spec : {M : Type 1} → statement M
-saving-spec =
+pub saving_spec : {M : Type 1} → statement M
+saving_spec =
     tie.close
     (tie.spec
     sub-saves

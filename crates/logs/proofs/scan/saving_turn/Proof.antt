@@ -13,52 +13,52 @@ use Rattle.logs.proofs.scan.saving_turn.Statement.{statement}
 use Rattle.logs.proofs.scan.saving_turn.Tie as tie
 
 -- a put or delete is open
-opened : (c : tie.Else2) → let a = c.before.before.before.before.before.args in (a.w.opened ≡ true) × (saves_at (drop a.w.begin a.l.now) ≡ true)
+opened : (c : tie.Else-not-w) → let a = c.before.before.before.before.before.args in (a.w.opened ≡ true) × (saves_at (drop a.w.begin a.l.now) ≡ true)
 opened c =
     let a = c.before.before.before.before.before in
-    let h = not-false _ c.if2.false in
+    let h = not-false _ c.if-not-w.false in
     (h, saving-open a.args.l.now a.args.w true a.requires.1 h)
 
 lost-requires : tie.Need-lost-requires
 lost-requires c κs = search rules
 
-returns : tie.Need-returns
-returns c = turned-full c.before.before.before.before.args.l.now _ _ c.lost.ensures c.before.if1.true
+returns : tie.Need-returns-then-w-eq4294967295
+returns c = turned-full c.before.before.before.before.args.l.now _ _ c.lost.ensures c.before.if-w-eq4294967295.true
 
-sub-save-begun : tie.Need-overflow-sub-save-begun
+sub-save-begun : tie.Need-slice_bounds-save_begun-count
 sub-save-begun c = omega (arith, c.before.before.before.before.before.requires.0.inside)
 
-part-save-begun-start : tie.Need-slice-bounds-save-begun-start
+part-save-begun-start : tie.Need-slice_bounds-save_begun-start
 part-save-begun-start c = omega (arith, c.before.before.before.before.before.requires.0.inside)
 
-part-save-begun-end : tie.Need-slice-bounds-save-begun-end
+part-save-begun-end : tie.Need-slice_bounds-save_begun-end
 part-save-begun-end c = search rules
 
-save-begun-requires : tie.Need-save-begun-requires
+save-begun-requires : tie.Need-save_begun-requires
 save-begun-requires c κs =
     let a = c.before.before.before.before.before.before in (
       omega arith,
       rw (part_to_end, length-drop) (omega (arith, a.requires.0.inside)),
-      rw part_to_end (saving-begun a.args.l.now a.args.w a.requires.1 (not-true _ c.before.if2.true)),
+      rw part_to_end (saving-begun a.args.l.now a.args.w a.requires.1 (not-true _ c.before.if-not-w.true)),
     )
 
-returns-2 : tie.Need-returns-2
-returns-2 c = begin-turned c.before.before.before.before.before.before.before.args.l.now _ _ c.before.before.if2.true c.save-begun.ensures
+returns-2 : tie.Need-returns-then-not-w
+returns-2 c = begin-turned c.before.before.before.before.before.before.before.args.l.now _ _ c.before.before.if-not-w.true c.save_begun.ensures
 
-save-turn-requires : tie.Need-save-turn-requires
+save-turn-requires : tie.Need-save_turn-requires
 save-turn-requires c κs =
     let a = c.before.before.before.before.before in
     let h = opened c in
     (record { inside = a.requires.0.inside; small = omega arith; laid = a.requires.0.saving h.0 h.1 }, omega arith)
 
-returns-3 : tie.Need-returns-3
+returns-3 : tie.Need-returns
 returns-3 c =
     let o = c.before in
     let a = o.before.before.before.before.before in
-    save-turned a.args.l.now _ _ o.if2.false true (rw part_to_end (sym (opened o).1)) refl c.save-turn.ensures
+    save-turned a.args.l.now _ _ o.if-not-w.false true (rw part_to_end (sym (opened o).1)) refl c.save_turn.ensures
 
-pub saving-turn-spec : {M : Type 1} → statement M
-saving-turn-spec =
+pub saving_turn_spec : {M : Type 1} → statement M
+saving_turn_spec =
     tie.close
     (tie.spec
     lost-requires

@@ -15,34 +15,34 @@ use Rattle.logs.proofs.scan.turn.Statement.{statement}
 use Rattle.logs.proofs.scan.turn.Tie as tie
 
 -- no unit is open, and there is room for an LB, which is none of a put or delete
-shut-room : (c : tie.Then2) → let a = c.before.before.before.before.before.args in
+shut-room : (c : tie.Then-not-w) → let a = c.before.before.before.before.before.args in
     (44 ≤ length (drop a.w.at a.l.now)) × (saves_at (drop a.w.at a.l.now) ≡ false)
-shut-room c = let a = c.before.before.before.before.before in saving-shut a.args.l.now a.args.w a.requires.1 (not-true _ c.if2.true)
+shut-room c = let a = c.before.before.before.before.before in saving-shut a.args.l.now a.args.w a.requires.1 (not-true _ c.if-not-w.true)
 
 -- a unit is open, its begin record stands in the log, and it is none of a put or delete
-open-room : (c : tie.Else2) → let a = c.before.before.before.before.before.args in
+open-room : (c : tie.Else-not-w) → let a = c.before.before.before.before.before.args in
     (a.w.opened ≡ true) × (a.w.begin + 44 ≤ length a.l.now) × (saves_at (drop a.w.begin a.l.now) ≡ false)
 open-room c =
     let a = c.before.before.before.before.before in
-    let h = not-false _ c.if2.false in
+    let h = not-false _ c.if-not-w.false in
     (h, a.requires.0.room h, saving-open a.args.l.now a.args.w false a.requires.1 h)
 
 lost-requires : tie.Need-lost-requires
 lost-requires c κs = search rules
 
-returns : tie.Need-returns
-returns c = turned-full c.before.before.before.before.args.l.now _ _ c.lost.ensures c.before.if1.true
+returns : tie.Need-returns-then-w-eq4294967295
+returns c = turned-full c.before.before.before.before.args.l.now _ _ c.lost.ensures c.before.if-w-eq4294967295.true
 
-sub-begin-turn : tie.Need-overflow-sub-begin-turn
+sub-begin-turn : tie.Need-slice_bounds-begin_turn-count
 sub-begin-turn c = omega (arith, c.before.before.before.before.before.requires.0.inside)
 
-part-begin-turn-start : tie.Need-slice-bounds-begin-turn-start
+part-begin-turn-start : tie.Need-slice_bounds-begin_turn-start
 part-begin-turn-start c = omega (arith, c.before.before.before.before.before.requires.0.inside)
 
-part-begin-turn-end : tie.Need-slice-bounds-begin-turn-end
+part-begin-turn-end : tie.Need-slice_bounds-begin_turn-end
 part-begin-turn-end c = search rules
 
-begin-turn-requires : tie.Need-begin-turn-requires
+begin-turn-requires : tie.Need-begin_turn-requires
 begin-turn-requires c κs =
     let a = c.before.before.before.before.before.before in
     let h = shut-room c.before in (
@@ -52,25 +52,25 @@ begin-turn-requires c κs =
       rw part_to_end h.1,
     )
 
-returns-2 : tie.Need-returns-2
-returns-2 c = begin-turned c.before.before.before.before.before.before.before.args.l.now _ _ c.before.before.if2.true c.begin-turn.ensures
+returns-2 : tie.Need-returns-then-not-w
+returns-2 c = begin-turned c.before.before.before.before.before.before.before.args.l.now _ _ c.before.before.if-not-w.true c.begin_turn.ensures
 
-add-compact : tie.Need-overflow-add-compact
+add-compact : tie.Need-overflow_add-compact
 add-compact c = omega (arith, (open-room c).1)
 
-shared-slice-read-compact : tie.Need-shared-slice-read-compact
+shared-slice-read-compact : tie.Need-bounds-l-begin
 shared-slice-read-compact c = omega (arith, (open-room c.before).1)
 
-sub-step-of : tie.Need-overflow-sub-step-of
+sub-step-of : tie.Need-slice_bounds-step_of-count
 sub-step-of c = omega (arith, (open-room c.before).1)
 
-part-step-of-start : tie.Need-slice-bounds-step-of-start
+part-step-of-start : tie.Need-slice_bounds-step_of-start
 part-step-of-start c = omega (arith, (open-room c.before).1)
 
-part-step-of-end : tie.Need-slice-bounds-step-of-end
+part-step-of-end : tie.Need-slice_bounds-step_of-end
 part-step-of-end c = search rules
 
-step-of-requires : tie.Need-step-of-requires
+step-of-requires : tie.Need-step_of-x-requires
 step-of-requires c κs =
     let a = c.before.before.before.before.before.before.before in
     let h = open-room c.before.before in (
@@ -80,25 +80,25 @@ step-of-requires c κs =
       rw (part_to_end, get_or-drop a.args.w.begin a.args.l.now 16 0),
     )
 
-sub-step-turn : tie.Need-overflow-sub-step-turn
+sub-step-turn : tie.Need-slice_bounds-step_turn-count
 sub-step-turn c = omega (arith, c.before.before.before.before.before.before.before.before.requires.0.inside)
 
-part-step-turn-start : tie.Need-slice-bounds-step-turn-start
+part-step-turn-start : tie.Need-slice_bounds-step_turn-start
 part-step-turn-start c = omega (arith, c.before.before.before.before.before.before.before.before.requires.0.inside)
 
-part-step-turn-end : tie.Need-slice-bounds-step-turn-end
+part-step-turn-end : tie.Need-slice_bounds-step_turn-end
 part-step-turn-end c = search rules
 
-step-turn-requires : tie.Need-step-turn-requires
+step-turn-requires : tie.Need-step_turn-requires
 step-turn-requires c κs =
     let a = c.before.before.before.before.before.before.before.before.before in
     (omega arith, rw (part_to_end, length-drop) (omega (arith, a.requires.0.inside)), a.requires.0.steps)
 
-returns-3 : tie.Need-returns-3
+returns-3 : tie.Need-returns
 returns-3 c =
     let o = c.before.before.before.before.before in
     let a = o.before.before.before.before.before in
-    step-turned a.args.l.now _ _ o.if2.false false (rw part_to_end (sym (open-room o).2)) refl _ c.before.before.step_of_lem.ensures c.step-turn.ensures
+    step-turned a.args.l.now _ _ o.if-not-w.false false (rw part_to_end (sym (open-room o).2)) refl _ c.before.before.step_of-x.ensures c.step_turn.ensures
 
 pub turn_spec : {M : Type 1} → statement M
 turn_spec =

@@ -5,21 +5,21 @@ use Rattle.logs.proofs.Placed.{move-close! }
 use Rattle.logs.proofs.steps.move_step.Statement.{statement}
 use Rattle.logs.proofs.steps.move_step.Tie as tie
 
-returns : tie.Need-returns
+returns : tie.Need-returns-then-i-eq0
 unfolding step_of move_plan
-returns c = rw c.if1.true
+returns c = rw c.if-i-eq0.true
 
-returns-2 : tie.Need-returns-2
+returns-2 : tie.Need-returns-then-i-eq1
 unfolding step_of move_plan
-returns-2 c = rw c.if2.true
+returns-2 c = rw c.if-i-eq1.true
 
-returns-3 : tie.Need-returns-3
+returns-3 : tie.Need-returns-then-i-eq2
 unfolding step_of move_plan
-returns-3 c = rw c.if3.true
+returns-3 c = rw c.if-i-eq2.true
 
-returns-4 : tie.Need-returns-4
+returns-4 : tie.Need-returns
 unfolding step_of
 returns-4 c = search move-close!
 
-pub move-step-spec : {M : Type 1} → statement M
-move-step-spec = tie.close (tie.spec returns returns-2 returns-3 returns-4)
+pub move_step_spec : {M : Type 1} → statement M
+move_step_spec = tie.close (tie.spec returns returns-2 returns-3 returns-4)

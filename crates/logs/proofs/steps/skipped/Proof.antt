@@ -5,13 +5,13 @@ use Rattle.field.specs.Test.{pick}
 use Rattle.logs.proofs.steps.skipped.Statement.{statement}
 use Rattle.logs.proofs.steps.skipped.Tie as tie
 
-returns : tie.Need-returns
+returns : tie.Need-returns-then-first-dest
 unfolding pick
-returns c = (rw (eq-eqb _ _ c.if1.true), omega arith)
+returns c = (rw (eq-eqb _ _ c.if-first-dest.true), omega arith)
 
-returns-2 : tie.Need-returns-2
+returns-2 : tie.Need-returns
 unfolding pick
-returns-2 c = (rw (ne_eqb _ _ c.if1.false), omega arith)
+returns-2 c = (rw (ne_eqb _ _ c.if-first-dest.false), omega arith)
 
-pub skipped-spec : {M : Type 1} → statement M
-skipped-spec = tie.close (tie.spec returns returns-2)
+pub skipped_spec : {M : Type 1} → statement M
+skipped_spec = tie.close (tie.spec returns returns-2)

@@ -5,17 +5,17 @@ use borrow.Author.Rules.{rules}
 use Rattle.logs.proofs.writing.listed_at.Statement.{statement}
 use Rattle.logs.proofs.writing.listed_at.Tie as tie
 
-mul-result : tie.Need-overflow-mul-result
+mul-result : tie.Need-offset_bounds-ps-i
 mul-result c = search rules
 
-shared-slice-read-result : tie.Need-shared-slice-read-result
+shared-slice-read-result : tie.Need-bounds-ps-i
 shared-slice-read-result c = search rules
 
-returns : tie.Need-returns
+returns : tie.Need-returns-then-i-ps
 returns c = search rules
 
-returns-2 : tie.Need-returns-2
-returns-2 c = sym (get_or-eq_default c.before.args.ps.now 0 c.if1.false)
+returns-2 : tie.Need-returns
+returns-2 c = sym (get_or-eq_default c.before.args.ps.now 0 c.if-i-ps.false)
 
-pub listed-at-spec : {M : Type 1} → statement M
-listed-at-spec = tie.close (tie.spec mul-result shared-slice-read-result returns returns-2)
+pub listed_at_spec : {M : Type 1} → statement M
+listed_at_spec = tie.close (tie.spec mul-result shared-slice-read-result returns returns-2)

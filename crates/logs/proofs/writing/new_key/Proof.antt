@@ -5,13 +5,13 @@ use Rattle.logs.specs.Record.{new_key}
 use Rattle.logs.proofs.writing.new_key.Statement.{statement}
 use Rattle.logs.proofs.writing.new_key.Tie as tie
 
-returns : tie.Need-returns
+returns : tie.Need-returns-then-new-eq0
 unfolding new_key pick
-returns c = rw (eq-eqb _ _ c.if1.true)
+returns c = rw (eq-eqb _ _ c.if-new-eq0.true)
 
-returns-2 : tie.Need-returns-2
+returns-2 : tie.Need-returns
 unfolding new_key pick
-returns-2 c = rw (ne_eqb _ _ c.if1.false)
+returns-2 c = rw (ne_eqb _ _ c.if-new-eq0.false)
 
-pub new-key-spec : {M : Type 1} → statement M
-new-key-spec = tie.close (tie.spec returns returns-2)
+pub new_key_spec : {M : Type 1} → statement M
+new_key_spec = tie.close (tie.spec returns returns-2)

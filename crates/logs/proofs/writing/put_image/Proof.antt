@@ -7,14 +7,14 @@ use borrow.Author.Rules.{rules}
 use Rattle.logs.proofs.writing.put_image.Statement.{statement}
 use Rattle.logs.proofs.writing.put_image.Tie as tie
 
-put-image-head-requires : tie.Need-put-image-head-requires
+put-image-head-requires : tie.Need-put_image_head-requires
 unfolding length_of
 put-image-head-requires c κs = search rules
 
-size-of-requires : tie.Need-size-of-requires
+size-of-requires : tie.Need-size_of-requires
 size-of-requires c κs = search rules
 
-add-copy : tie.Need-overflow-add-copy
+add-copy : tie.Need-overflow_add-at
 unfolding length_of kind_at kinds
 add-copy c = search rules
 
@@ -22,18 +22,18 @@ copy-requires : tie.Need-copy-requires
 unfolding length_of kind_at kinds
 copy-requires c κs = search rules
 
-same_length : tie.Need-same-length
+same_length : tie.Need-shape_of-s
 same_length c = search rules
 
 returns : tie.Need-returns
 unfolding length_of kind_at kinds
 returns c =
     let a = c.before.before.before.before.before.before.before.before.before.before.before in
-    let w = image-written a.args.s.now a.args.at a.args.n.0 a.args.p.0 a.args.page.now a.requires.1 a.requires.2 _ c.before.before.before.before.before.before.before.put-image-head.ensures in
+    let w = image-written a.args.s.now a.args.at a.args.n.0 a.args.p.0 a.args.page.now a.requires.1 a.requires.2 _ c.before.before.before.before.before.before.before.put_image_head.ensures in
     c.before.before.copy.ensures ∙ rw c.before.before.before.type_size.ensures w
 
-pub put-image-spec : {M : Type 1} → statement M
-put-image-spec =
+pub put_image_spec : {M : Type 1} → statement M
+put_image_spec =
     tie.close
     (tie.spec
     put-image-head-requires

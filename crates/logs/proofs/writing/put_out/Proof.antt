@@ -6,13 +6,13 @@ use borrow.Author.Rules.{rules}
 use Rattle.logs.proofs.writing.put_out.Statement.{statement}
 use Rattle.logs.proofs.writing.put_out.Tie as tie
 
-put-paged-requires : tie.Need-put-paged-requires
+put-paged-requires : tie.Need-put_paged-requires
 put-paged-requires c κs = search rules
 
-size-of-requires : tie.Need-size-of-requires
+size-of-requires : tie.Need-size_of-requires
 size-of-requires c κs = search rules
 
-add-copy : tie.Need-overflow-add-copy
+add-copy : tie.Need-overflow_add-at
 unfolding length_of kind_at kinds
 add-copy c = search rules
 
@@ -20,7 +20,7 @@ copy-requires : tie.Need-copy-requires
 unfolding length_of kind_at kinds
 copy-requires c κs = search rules
 
-same_length : tie.Need-same-length
+same_length : tie.Need-shape_of-s
 same_length c = search rules
 
 returns : tie.Need-returns
@@ -29,5 +29,5 @@ returns c =
     let a = c.before.before.before.before.before.before.before.before.before.before.before in
     cc (out-puts a.args.s.now a.args.at a.args.n.0 a.args.org.0 a.args.dest.0 a.args.k a.args.rs.now a.requires.1 a.requires.0.2)
 
-pub put-out-spec : {M : Type 1} → statement M
-put-out-spec = tie.close (tie.spec put-paged-requires size-of-requires add-copy copy-requires same_length returns)
+pub put_out_spec : {M : Type 1} → statement M
+put_out_spec = tie.close (tie.spec put-paged-requires size-of-requires add-copy copy-requires same_length returns)

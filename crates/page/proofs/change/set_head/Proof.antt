@@ -7,7 +7,7 @@ use borrow.Author.Rules.{rules}
 use Rattle.page.proofs.change.set_head.Statement.{statement}
 use Rattle.page.proofs.change.set_head.Tie as tie
 
-slice-write-pg : tie.Need-slice-write-pg
+slice-write-pg : tie.Need-bounds-pg-1
 slice-write-pg c = search rules
 
 put2-requires : tie.Need-put2-requires
@@ -18,7 +18,7 @@ stamp-requires c κs =
     let a = c.before.before.before.before.before.before in
     c.before.before.before.put2.auto.0 ∙ length-set a.args.pg.now 1 a.args.sign ∙ a.requires
 
-same_length : tie.Need-same-length
+same_length : tie.Need-shape_of-pg
 same_length c =
     let a = c.before.before.before.before.before.before.before.before.before in
     c.before.before.stamp.auto.0 ∙ c.before.before.before.before.before.before.put2.auto.0
@@ -29,6 +29,6 @@ returns c =
     let a = c.before.before.before.before.before.before.before.before.before in
     cc (set-put a.args.pg.now 1 a.args.sign (omega arith))
 
-pub set-head-spec : {M : Type 1} → statement M
-set-head-spec =
+pub set_head_spec : {M : Type 1} → statement M
+set_head_spec =
     tie.close (tie.spec slice-write-pg put2-requires stamp-requires same_length returns)

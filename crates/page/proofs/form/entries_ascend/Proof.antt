@@ -11,98 +11,98 @@ use Rattle.page.proofs.Neighbours.{among, entry-none!, entry-bad!, entry_first, 
 use Rattle.page.proofs.form.entries_ascend.Statement.{statement}
 use Rattle.page.proofs.form.entries_ascend.Tie as tie
 
-abbrev invariant-loop : tie.invariant-loop
+abbrev invariant-loop : tie.invariant-loop-i
 invariant-loop pg n from to low high last ok₀ i₀ ok i = (i ≤ last) × (both (ascend 101 110 0 (rows_of 8 n (drop 16 pg))) (pointing from to (rows_of 8 n (drop 16 pg))) ≡ both ok (among from to pg (n - 1) i))
 
-abbrev decreases-loop : tie.decreases-loop
+abbrev decreases-loop : tie.decreases-loop-i
 decreases-loop pg n from to low high last ok₀ i₀ ok i = last - i
 
-returns : tie.Need-returns invariant-loop decreases-loop
+returns : tie.Need-returns-then-n-eq0 invariant-loop decreases-loop
 returns c = search entry-none!
 
-add_low : tie.Need-overflow-add-low invariant-loop decreases-loop
+add_low : tie.Need-overflow_add-low invariant-loop decreases-loop
 add_low c = omega arith
 
-add-high : tie.Need-overflow-add-high invariant-loop decreases-loop
+add-high : tie.Need-overflow_add-high invariant-loop decreases-loop
 add-high c = omega arith
 
 get2-requires : tie.Need-get2-requires invariant-loop decreases-loop
 get2-requires c κs = omega arith
 
-returns-2 : tie.Need-returns-2 invariant-loop decreases-loop
+returns-2 : tie.Need-returns-then-get2-ne-EN invariant-loop decreases-loop
 returns-2 c = search entry-bad!
 
-sub-last : tie.Need-overflow-sub-last invariant-loop decreases-loop
+sub-last : tie.Need-overflow_sub-last invariant-loop decreases-loop
 sub-last c = omega arith
 
-loop-holds : tie.Need-loop-init invariant-loop decreases-loop
+loop-holds : tie.Need-loop-i-init invariant-loop decreases-loop
 loop-holds c =
     let a = c.before.before.before.before in
-    let y : Bytes a.args.pg.now = λ i. omega (arith, c.before.before.before.shared-slice-known.given i) in
-    (omega arith, entry_first a.args.from a.args.to a.args.pg.now a.args.n c.before.before.if1.false _ c.before.get2.ensures y c.if2.false)
+    let y : Bytes a.args.pg.now = λ i. omega (arith, c.before.before.before.shared_slice_known-1.given i) in
+    (omega arith, entry_first a.args.from a.args.to a.args.pg.now a.args.n c.before.before.if-n-eq0.false _ c.before.get2.ensures y c.if-get2-ne-EN.false)
 
-mul-get4 : tie.Need-overflow-mul-get4 invariant-loop decreases-loop
+mul-get4 : tie.Need-overflow_mul-i invariant-loop decreases-loop
 mul-get4 c = omega arith
 
-add-get4 : tie.Need-overflow-add-get4 invariant-loop decreases-loop
+add-get4 : tie.Need-overflow_add-i invariant-loop decreases-loop
 add-get4 c = omega arith
 
-get4-requires : tie.Need-get4-requires invariant-loop decreases-loop
+get4-requires : tie.Need-get4-x-requires invariant-loop decreases-loop
 get4-requires c κs = omega arith
 
-mul-get4-2 : tie.Need-overflow-mul-get4-2 invariant-loop decreases-loop
+mul-get4-2 : tie.Need-overflow_mul-i-in-loop-i invariant-loop decreases-loop
 mul-get4-2 c = omega arith
 
-add-get4-2 : tie.Need-overflow-add-get4-2 invariant-loop decreases-loop
+add-get4-2 : tie.Need-overflow_add-i-in-loop-i invariant-loop decreases-loop
 add-get4-2 c = omega arith
 
-get4-requires-2 : tie.Need-get4-requires-2 invariant-loop decreases-loop
+get4-requires-2 : tie.Need-get4-requires invariant-loop decreases-loop
 get4-requires-2 c κs = omega arith
 
-mul-get4-3 : tie.Need-overflow-mul-get4-3 invariant-loop decreases-loop
+mul-get4-3 : tie.Need-overflow_mul-i-in-loop-i-2 invariant-loop decreases-loop
 mul-get4-3 c = omega arith
 
-add-get4-3 : tie.Need-overflow-add-get4-3 invariant-loop decreases-loop
+add-get4-3 : tie.Need-overflow_add-i-in-loop-i-2 invariant-loop decreases-loop
 add-get4-3 c = omega arith
 
-get4-requires-3 : tie.Need-get4-requires-3 invariant-loop decreases-loop
+get4-requires-3 : tie.Need-get4-requires-in-loop-i invariant-loop decreases-loop
 get4-requires-3 c κs = omega arith
 
-add-i : tie.Need-overflow-add-i invariant-loop decreases-loop
+add-i : tie.Need-overflow_add-i-in-loop-i-3 invariant-loop decreases-loop
 add-i c = omega arith
 
-loop-less : tie.Need-loop-smaller invariant-loop decreases-loop
+loop-less : tie.Need-loop-i-smaller invariant-loop decreases-loop
 loop-less c = omega arith
 
-loop-again : tie.Need-loop-preserved invariant-loop decreases-loop
+loop-again : tie.Need-loop-i-preserved invariant-loop decreases-loop
 loop-again c =
     let turn = c.before.before.before in
     let a = turn.before.before.before.before.before.before in
-    let y : Bytes a.args.pg.now = λ i. omega (arith, turn.before.before.before.before.before.shared-slice-known.given i) in (
+    let y : Bytes a.args.pg.now = λ i. omega (arith, turn.before.before.before.before.before.shared_slice_known-1.given i) in (
       omega arith,
-      entry_more a.args.from a.args.to a.args.pg.now a.args.n _ _ turn.before.loop.invariant.1 turn.loop-test.true y a.requires.1
-          _ _ _ c.before.before.get4.ensures c.before.get42.ensures c.get43.ensures,
+      entry_more a.args.from a.args.to a.args.pg.now a.args.n _ _ turn.before.loop-i.invariant.1 turn.loop-i-test.true y a.requires.1
+          _ _ _ c.before.before.get4-x.ensures c.before.get4.ensures c.get4-in-loop-i.ensures,
     )
 
-mul-get2 : tie.Need-overflow-mul-get2 invariant-loop decreases-loop
+mul-get2 : tie.Need-overflow_mul-last invariant-loop decreases-loop
 mul-get2 c = omega arith
 
-add-get2 : tie.Need-overflow-add-get2 invariant-loop decreases-loop
+add-get2 : tie.Need-overflow_add-last invariant-loop decreases-loop
 add-get2 c = omega arith
 
-get2-requires-2 : tie.Need-get2-requires-2 invariant-loop decreases-loop
+get2-requires-2 : tie.Need-get2-p-requires invariant-loop decreases-loop
 get2-requires-2 c κs = omega arith
 
-cast-p : tie.Need-overflow-cast-p invariant-loop decreases-loop
+cast-p : tie.Need-overflow_cast-p invariant-loop decreases-loop
 cast-p c = omega arith
 
-returns-3 : tie.Need-returns-3 invariant-loop decreases-loop
+returns-3 : tie.Need-returns invariant-loop decreases-loop
 returns-3 c =
     let a = c.before.before.before.before.before.before.before in
-    entry-end a.args.from a.args.to a.args.pg.now a.args.n _ _ c.before.before.loop.invariant.1 c.before.before.loop.invariant.0 c.before.loop-test.false _ c.get22.ensures
+    entry-end a.args.from a.args.to a.args.pg.now a.args.n _ _ c.before.before.loop-i.invariant.1 c.before.before.loop-i.invariant.0 c.before.loop-i-test.false _ c.get2-p.ensures
 
-pub entries-ascend-spec : {M : Type 1} → statement M
-entries-ascend-spec =
+pub entries_ascend_spec : {M : Type 1} → statement M
+entries_ascend_spec =
     tie.close
     (tie.spec
     invariant-loop

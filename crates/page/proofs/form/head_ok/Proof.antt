@@ -4,47 +4,47 @@ use borrow.Author.Rules.{rules}
 use Rattle.page.proofs.form.head_ok.Statement.{statement}
 use Rattle.page.proofs.form.head_ok.Tie as tie
 
-returns : tie.Need-returns
+returns : tie.Need-returns-then-pg-ne256
 returns c = search head-size!
 
-shared-slice-read-if2 : tie.Need-shared-slice-read-if2
+shared-slice-read-if2 : tie.Need-bounds-pg-0
 shared-slice-read-if2 c = search rules
 
-returns-2 : tie.Need-returns-2
+returns-2 : tie.Need-returns-then-pg-ne112
 returns-2 c = search head-mark!
 
-shared-slice-read-if3 : tie.Need-shared-slice-read-if3
+shared-slice-read-if3 : tie.Need-bounds-pg-1
 shared-slice-read-if3 c = search rules
 
-returns-3 : tie.Need-returns-3
+returns-3 : tie.Need-returns-then-pg-sign
 returns-3 c = search head-letter!
 
-count-requires : tie.Need-count-requires
+count-requires : tie.Need-count-n-requires
 count-requires c κs = search rules
 
-returns-4 : tie.Need-returns-4
+returns-4 : tie.Need-returns-then-n-least
 returns-4 c = search head-few!
 
-returns-5 : tie.Need-returns-5
+returns-5 : tie.Need-returns-then-most-n
 returns-5 c = search head-many!
 
-sub-zeros : tie.Need-overflow-sub-zeros
+sub-zeros : tie.Need-slice_bounds-zeros-count
 sub-zeros c = search rules
 
-part-zeros-start : tie.Need-slice-bounds-zeros-start
+part-zeros-start : tie.Need-slice_bounds-zeros-start
 part-zeros-start c = search rules
 
-part-zeros-end : tie.Need-slice-bounds-zeros-end
+part-zeros-end : tie.Need-slice_bounds-zeros-end
 part-zeros-end c = search rules
 
 zeros-requires : tie.Need-zeros-requires
 zeros-requires c κs = search rules
 
-returns-6 : tie.Need-returns-6
+returns-6 : tie.Need-returns
 returns-6 c = search head-spare!
 
-pub head-ok-spec : {M : Type 1} → statement M
-head-ok-spec =
+pub head_ok_spec : {M : Type 1} → statement M
+head_ok_spec =
     tie.close
     (tie.spec
     returns

@@ -4,41 +4,41 @@ use borrow.Author.Rules.{rules}
 use Rattle.page.proofs.form.records_ok.Statement.{statement}
 use Rattle.page.proofs.form.records_ok.Tie as tie
 
-count-requires : tie.Need-count-requires
+count-requires : tie.Need-count-n-requires
 count-requires c κs = search rules
 
-cast-n : tie.Need-overflow-cast-n
+cast-n : tie.Need-overflow_cast-n
 cast-n c = search rules
 
-records-ascend-requires : tie.Need-records-ascend-requires
+records-ascend-requires : tie.Need-records_ascend-requires
 records-ascend-requires c κs = search rules
 
-returns : tie.Need-returns
+returns : tie.Need-returns-then-not-records_ascend
 returns c = search body-order!
 
-mul-end : tie.Need-overflow-mul-end
+mul-end : tie.Need-overflow_mul-end
 mul-end c = search rules
 
-add-end : tie.Need-overflow-add-end
+add-end : tie.Need-overflow_add-end
 add-end c = search rules
 
-sub-zeros : tie.Need-overflow-sub-zeros
+sub-zeros : tie.Need-slice_bounds-zeros-count
 sub-zeros c = search rules
 
-part-zeros-start : tie.Need-slice-bounds-zeros-start
+part-zeros-start : tie.Need-slice_bounds-zeros-start
 part-zeros-start c = search rules
 
-part-zeros-end : tie.Need-slice-bounds-zeros-end
+part-zeros-end : tie.Need-slice_bounds-zeros-end
 part-zeros-end c = search rules
 
 zeros-requires : tie.Need-zeros-requires
 zeros-requires c κs = search rules
 
-returns-2 : tie.Need-returns-2
+returns-2 : tie.Need-returns
 returns-2 c = search body-rest!
 
-pub records-ok-spec : {M : Type 1} → statement M
-records-ok-spec =
+pub records_ok_spec : {M : Type 1} → statement M
+records_ok_spec =
     tie.close
     (tie.spec
     count-requires

@@ -4,21 +4,21 @@ use borrow.Author.Rules.{rules}
 use Rattle.page.proofs.image.with_entry.Statement.{statement}
 use Rattle.page.proofs.image.with_entry.Tie as tie
 
-entry-of-requires : tie.Need-entry-of-requires
+entry-of-requires : tie.Need-entry_of-e-requires
 entry-of-requires c κs = search rules
 
-slice-aggregate-with-rows : tie.Need-slice-aggregate-with-rows
+slice-aggregate-with-rows : tie.Need-slice_bounds-with_rows-end
 slice-aggregate-with-rows c = search rules
 
-with-rows-requires : tie.Need-with-rows-requires
+with-rows-requires : tie.Need-with_rows-requires
 with-rows-requires c κs = search rules
 
 returns : tie.Need-returns
 returns c =
     let a = c.before.before.before in
-    let e = c.before.before.entry_of in
+    let e = c.before.before.entry_of-e in
     cc (one-row a.args.key a.args.p.0 e.result e.ensures)
 
-pub with-entry-spec : {M : Type 1} → statement M
-with-entry-spec =
+pub with_entry_spec : {M : Type 1} → statement M
+with_entry_spec =
     tie.close (tie.spec entry-of-requires slice-aggregate-with-rows with-rows-requires returns)

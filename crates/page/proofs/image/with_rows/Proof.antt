@@ -9,38 +9,38 @@ use borrow.Author.Rules.{rules}
 use Rattle.page.proofs.image.with_rows.Statement.{statement}
 use Rattle.page.proofs.image.with_rows.Tie as tie
 
-slice-aggregate-count : tie.Need-slice-aggregate-count
+slice-aggregate-count : tie.Need-slice_bounds-count-end
 slice-aggregate-count c = search rules
 
-count-requires : tie.Need-count-requires
+count-requires : tie.Need-count-old-requires
 count-requires c κs = search rules
 
-slice-aggregate-put2 : tie.Need-slice-aggregate-put2
+slice-aggregate-put2 : tie.Need-slice_bounds-put2-end
 slice-aggregate-put2 c = search rules
 
-add-put2 : tie.Need-overflow-add-put2
+add-put2 : tie.Need-overflow_add-old
 add-put2 c = search rules
 
 put2-requires : tie.Need-put2-requires
 put2-requires c κs = search rules
 
-slice-aggregate-copy : tie.Need-slice-aggregate-copy
+slice-aggregate-copy : tie.Need-slice_bounds-copy-end
 slice-aggregate-copy c = search rules
 
-cast-copy : tie.Need-overflow-cast-copy
+cast-copy : tie.Need-overflow_cast-old
 cast-copy c = search rules
 
 -- the rows are in the page
-room : (c : tie.After-image4)
-    → let a = c.before.before.before.before.before.before.before in a.args.sz * c.before.before.before.before.count.result ≡ a.args.sz * count a.args.t1
+room : (c : tie.After-image-4-1)
+    → let a = c.before.before.before.before.before.before.before in a.args.sz * c.before.before.before.before.count-old.result ≡ a.args.sz * count a.args.t1
 room c =
     let a = c.before.before.before.before.before.before.before in
-    ap (λ (x : ℕ). a.args.sz * x) c.before.before.before.before.count.ensures
+    ap (λ (x : ℕ). a.args.sz * x) c.before.before.before.before.count-old.ensures
 
-mul-copy : tie.Need-overflow-mul-copy
+mul-copy : tie.Need-overflow_mul-sz
 mul-copy c = omega (arith, room c)
 
-add-copy : tie.Need-overflow-add-copy
+add-copy : tie.Need-overflow_add-sz
 add-copy c = omega (arith, room c)
 
 copy-requires : tie.Need-copy-requires
@@ -55,8 +55,8 @@ returns c =
     let few : a.args.sz * count a.args.t1 ≤ 240 = omega arith in
     cc (more_rows a.args.sz a.args.k a.args.t1 a.args.rs.now whole a.requires.0 a.requires.1.0 few)
 
-pub with-rows-spec : {M : Type 1} → statement M
-with-rows-spec =
+pub with_rows_spec : {M : Type 1} → statement M
+with_rows_spec =
     tie.close
     (tie.spec
     slice-aggregate-count

@@ -4,28 +4,28 @@ use borrow.Author.Rules.{rules}
 use Rattle.page.proofs.place.append_at.Statement.{statement}
 use Rattle.page.proofs.place.append_at.Tie as tie
 
-cast-at : tie.Need-overflow-cast-at
+cast-at : tie.Need-overflow_cast-at
 cast-at c = search rules
 
-mul_at : tie.Need-overflow-mul-at
+mul_at : tie.Need-overflow_mul-at
 mul_at c = search rules
 
-add-append : tie.Need-overflow-add-append
+add-append : tie.Need-overflow_add-at
 add-append c = search rules
 
-sub-append : tie.Need-overflow-sub-append
+sub-append : tie.Need-slice_bounds-append-count
 sub-append c = search rules
 
-part-append-start : tie.Need-slice-bounds-append-start
+part-append-start : tie.Need-slice_bounds-append-start
 part-append-start c = search rules
 
-part-append-end : tie.Need-slice-bounds-append-end
+part-append-end : tie.Need-slice_bounds-append-end
 part-append-end c = search rules
 
 append-requires : tie.Need-append-requires
 append-requires c κs = rw lent-page c.before.before.before.before.requires.1
 
-same_length : tie.Need-same-length
+same_length : tie.Need-shape_of-w
 same_length c = search rules
 
 returns : tie.Need-returns
@@ -34,8 +34,8 @@ returns c =
     let x = c.before.before.append in
     cc (lent-page a.args.p.0 a.args.w.now, back-kept a.args.p.0 a.args.w.now x.new.0 a.requires.0.0 a.requires.0.1 x.auto.0)
 
-pub append-at-spec : {M : Type 1} → statement M
-append-at-spec =
+pub append_at_spec : {M : Type 1} → statement M
+append_at_spec =
     tie.close
     (tie.spec
     cast-at

@@ -11,5 +11,5 @@ returns : tie.Need-returns
 unfolding number
 returns c = c.get4.ensures
 
-pub number-spec : {M : Type 1} → statement M
-number-spec = tie.close (tie.spec get4-requires returns)
+pub number_spec : {M : Type 1} → statement M
+number_spec = tie.close (tie.spec get4-requires returns)

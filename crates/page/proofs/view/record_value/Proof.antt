@@ -8,28 +8,28 @@ use borrow.Author.Rules.{rules}
 use Rattle.page.proofs.view.record_value.Statement.{statement}
 use Rattle.page.proofs.view.record_value.Tie as tie
 
-mul_at : tie.Need-overflow-mul-at
+mul_at : tie.Need-overflow_mul-at
 mul_at c = search rules
 
-add_at : tie.Need-overflow-add-at
+add_at : tie.Need-overflow_add-at
 add_at c = search rules
 
-add-at-2 : tie.Need-overflow-add-at-2
+add-at-2 : tie.Need-overflow_add-at-2
 add-at-2 c = search rules
 
-slice-aggregate-copy : tie.Need-slice-aggregate-copy
+slice-aggregate-copy : tie.Need-slice_bounds-copy-end
 slice-aggregate-copy c = search rules
 
-add-copy : tie.Need-overflow-add-copy
+add-copy : tie.Need-overflow_add-at-3
 add-copy c = search rules
 
-sub-copy : tie.Need-overflow-sub-copy
+sub-copy : tie.Need-slice_bounds-copy-count
 sub-copy c = search rules
 
-part-copy-start : tie.Need-slice-bounds-copy-start
+part-copy-start : tie.Need-slice_bounds-copy-start
 part-copy-start c = search rules
 
-part-copy-end : tie.Need-slice-bounds-copy-end
+part-copy-end : tie.Need-slice_bounds-copy-end-2
 part-copy-end c = search rules
 
 copy-requires : tie.Need-copy-requires
@@ -42,8 +42,8 @@ returns c =
     let i = a.args.i in
     c.before.copy.ensures ∙ copied-part (16 + 16 * i + 6) 10 pg _ refl (omega arith) ∙ sym (value-at i pg a.requires.1 a.requires.0)
 
-pub record-value-spec : {M : Type 1} → statement M
-record-value-spec =
+pub record_value_spec : {M : Type 1} → statement M
+record_value_spec =
     tie.close
     (tie.spec
     mul_at

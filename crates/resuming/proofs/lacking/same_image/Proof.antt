@@ -10,42 +10,42 @@ get2-requires : tie.Need-get2-requires
 unfolding length_of
 get2-requires c κs = omega (arith, c.before.before.before.requires.3)
 
-returns : tie.Need-returns
+returns : tie.Need-returns-then-get2-d
 returns c = search page-other!
 
-blank-requires : tie.Need-blank-requires
+blank-requires : tie.Need-blank-page-requires
 blank-requires c κs = search rules
 
-slice-aggregate-draw : tie.Need-slice-aggregate-draw
+slice-aggregate-draw : tie.Need-slice_bounds-draw-end
 slice-aggregate-draw c = search rules
 
 draw-requires : tie.Need-draw-requires
 draw-requires c κs = search rules
 
-add-same-bytes : tie.Need-overflow-add-same-bytes
+add-same-bytes : tie.Need-overflow_add-same_bytes
 add-same-bytes c = search rules
 
-sub-same-bytes : tie.Need-overflow-sub-same-bytes
+sub-same-bytes : tie.Need-slice_bounds-same_bytes-count
 sub-same-bytes c = search rules
 
-part-same-bytes-start : tie.Need-slice-bounds-same-bytes-start
+part-same-bytes-start : tie.Need-slice_bounds-same_bytes-start
 part-same-bytes-start c = search rules
 
-part-same-bytes-end : tie.Need-slice-bounds-same-bytes-end
+part-same-bytes-end : tie.Need-slice_bounds-same_bytes-end
 unfolding length_of
 part-same-bytes-end c = omega (arith, c.before.before.before.before.before.before.before.before.before.before.requires.3)
 
-slice-aggregate-same-bytes : tie.Need-slice-aggregate-same-bytes
+slice-aggregate-same-bytes : tie.Need-slice_bounds-same_bytes-end-2
 slice-aggregate-same-bytes c = search rules
 
-same-bytes-requires : tie.Need-same-bytes-requires
+same-bytes-requires : tie.Need-same_bytes-requires
 same-bytes-requires c κs = search rules
 
-returns-2 : tie.Need-returns-2
+returns-2 : tie.Need-returns
 returns-2 c = search page-same!
 
-pub same-image-spec : {M : Type 1} → statement M
-same-image-spec =
+pub same_image_spec : {M : Type 1} → statement M
+same_image_spec =
     tie.close
     (tie.spec
     get2-requires

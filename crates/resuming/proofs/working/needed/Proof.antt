@@ -5,19 +5,19 @@ use borrow.Author.Rules.{rules}
 use Rattle.resuming.proofs.working.needed.Statement.{statement}
 use Rattle.resuming.proofs.working.needed.Tie as tie
 
-readied-requires : tie.Need-readied-requires
+readied-requires : tie.Need-readied-reply-requires
 readied-requires c κs = search rules
 
-returns : tie.Need-returns
-returns c = λ g n t r. needs-none g n _ _ _ _ c.before.readied.ensures c.if1.true t r
+returns : tie.Need-returns-then-reply-ne0
+returns c = λ g n t r. needs-none g n _ _ _ _ c.before.readied-reply.ensures c.if-reply-ne0.true t r
 
-worked-requires : tie.Need-worked-requires
+worked-requires : tie.Need-worked-x-requires
 worked-requires c κs =
     let a = c.before.before.before.before in
-    (a.requires.0, a.requires.1, sym c.before.readied.ensures ∙ c.if1.false)
+    (a.requires.0, a.requires.1, sym c.before.readied-reply.ensures ∙ c.if-reply-ne0.false)
 
-returns-2 : tie.Need-returns-2
-returns-2 c = λ g n t r. needs-of g n _ _ _ _ c.worked.ensures t r
+returns-2 : tie.Need-returns
+returns-2 c = λ g n t r. needs-of g n _ _ _ _ c.worked-x.ensures t r
 
-pub needed-spec : {M : Type 1} → statement M
-needed-spec = tie.close (tie.spec readied-requires returns worked-requires returns-2)
+pub needed_spec : {M : Type 1} → statement M
+needed_spec = tie.close (tie.spec readied-requires returns worked-requires returns-2)

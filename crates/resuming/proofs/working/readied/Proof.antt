@@ -6,23 +6,23 @@ use borrow.Author.Rules.{rules}
 use Rattle.resuming.proofs.working.readied.Statement.{statement}
 use Rattle.resuming.proofs.working.readied.Tie as tie
 
-all-formed-requires : tie.Need-all-formed-requires
+all-formed-requires : tie.Need-all_formed-requires
 all-formed-requires c κs = search rules
 
-returns : tie.Need-returns
+returns : tie.Need-returns-then-not-all_formed
 returns c = search unformed!
 
-well-formed-requires : tie.Need-well-formed-requires
-well-formed-requires c κs = record { whole = c.before.before.before.requires; forms = sym c.before.all-formed.ensures ∙ not-false _ c.if1.false }
+well-formed-requires : tie.Need-well_formed-requires
+well-formed-requires c κs = record { whole = c.before.before.before.requires; forms = sym c.before.all_formed.ensures ∙ not-false _ c.if-not-all_formed.false }
 
-returns-2 : tie.Need-returns-2
+returns-2 : tie.Need-returns-then-not-well_formed
 returns-2 c = search unwell!
 
-returns-3 : tie.Need-returns-3
+returns-3 : tie.Need-returns
 returns-3 c = search ready!
 
-pub readied-spec : {M : Type 1} → statement M
-readied-spec =
+pub readied_spec : {M : Type 1} → statement M
+readied_spec =
     tie.close
     (tie.spec
     all-formed-requires

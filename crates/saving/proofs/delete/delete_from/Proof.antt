@@ -10,39 +10,39 @@ use Rattle.saving.proofs.delete.delete_from.Tie as tie
 refused-requires : tie.Need-refused-requires
 refused-requires c κs = search rules
 
-returns : tie.Need-returns
+returns : tie.Need-returns-then-x
 returns c = λ r.
     let a = c.before.before.before.before in
     let w = a.args.w.now in
     let t = a.requires.2 in
-    plans-as w r _ _ _ (c.refused.ensures w r) (from-none w _ _ _ _ _ t.stands t.leaf.inside c.before.if1.true)
+    plans-as w r _ _ _ (c.refused.ensures w r) (from-none w _ _ _ _ _ t.stands t.leaf.inside c.before.if-x.true)
 
-cast-count-at : tie.Need-overflow-cast-count-at
+cast-count-at : tie.Need-overflow_cast-x
 cast-count-at c = search rules
 
-count-at-requires : tie.Need-count-at-requires
+count-at-requires : tie.Need-count_at-requires
 count-at-requires c κs = search rules
 
-delete-leaf-requires : tie.Need-delete-leaf-requires
+delete-leaf-requires : tie.Need-delete_leaf-requires
 delete-leaf-requires c κs = search rules
 
-returns-2 : tie.Need-returns-2
+returns-2 : tie.Need-returns-then-count_at-eq1
 returns-2 c = λ r.
     let n = c.before.before in
     let e = n.before.before in
     let a = e.before.before.before in
     let w = a.args.w.now in
     let t = a.requires.2 in
-    plans-as w r _ _ _ (c.delete-leaf.ensures r)
-    (from_empty w _ _ _ _ _ t.stands t.leaf.inside e.if1.false (sym n.count_at.ensures ∙ c.before.if2.true))
+    plans-as w r _ _ _ (c.delete_leaf.ensures r)
+    (from_empty w _ _ _ _ _ t.stands t.leaf.inside e.if-x.false (sym n.count_at.ensures ∙ c.before.if-count_at-eq1.true))
 
-patched-requires : tie.Need-patched-requires
+patched-requires : tie.Need-patched-leaf-requires
 patched-requires c κs = search rules
 
 listed-requires : tie.Need-listed-requires
 listed-requires c κs = search rules
 
-returns-3 : tie.Need-returns-3
+returns-3 : tie.Need-returns
 unfolding inserted
 returns-3 c = λ r.
     let d = c.before in
@@ -51,11 +51,11 @@ returns-3 c = λ r.
     let a = e.before.before.before in
     let w = a.args.w.now in
     let t = a.requires.2 in
-    listed-as w r _ _ 1 _ _ _ _ _ _ _ _ d.patched.ensures d.patched.ensures d.patched.ensures d.patched.ensures c.listed.ensures
-    (from-leaf w _ _ _ _ _ t.stands t.leaf.inside e.if1.false (λ z. d.before.if2.false (n.count_at.ensures ∙ z)))
+    listed-as w r _ _ 1 _ _ _ _ _ _ _ _ d.patched-leaf.ensures d.patched-leaf.ensures d.patched-leaf.ensures d.patched-leaf.ensures c.listed.ensures
+    (from-leaf w _ _ _ _ _ t.stands t.leaf.inside e.if-x.false (λ z. d.before.if-count_at-eq1.false (n.count_at.ensures ∙ z)))
 
-pub delete-from-spec : {M : Type 1} → statement M
-delete-from-spec =
+pub delete_from_spec : {M : Type 1} → statement M
+delete_from_spec =
     tie.close
     (tie.spec
     refused-requires

@@ -4,10 +4,10 @@ use borrow.Author.Rules.{rules}
 use Rattle.saving.proofs.delete.lowered.Statement.{statement}
 use Rattle.saving.proofs.delete.lowered.Tie as tie
 
-page-at-requires : tie.Need-page-at-requires
+page-at-requires : tie.Need-page_at-to-requires
 page-at-requires c κs = search rules
 
-add-patched : tie.Need-overflow-add-patched
+add-patched : tie.Need-overflow_add-i
 add-patched c = search rules
 
 patched-requires : tie.Need-patched-requires
@@ -16,7 +16,7 @@ patched-requires c κs = search rules
 returns : tie.Need-returns
 returns c =
     let a = c.before.before.before in
-    lowered-draws a.args.w.now _ _ _ _ _ _ a.requires.2 c.before.page-at.ensures c.patched.ensures
+    lowered-draws a.args.w.now _ _ _ _ _ _ a.requires.2 c.before.page_at-to.ensures c.patched.ensures
 
-pub lowered-spec : {M : Type 1} → statement M
-lowered-spec = tie.close (tie.spec page-at-requires add-patched patched-requires returns)
+pub lowered_spec : {M : Type 1} → statement M
+lowered_spec = tie.close (tie.spec page-at-requires add-patched patched-requires returns)

@@ -22,5 +22,5 @@ returns c = λ w.
       };
     }
 
-pub emptied-spec : {M : Type 1} → statement M
-emptied-spec = tie.close (tie.spec returns)
+pub emptied_spec : {M : Type 1} → statement M
+emptied_spec = tie.close (tie.spec returns)

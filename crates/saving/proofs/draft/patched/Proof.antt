@@ -4,19 +4,19 @@ use borrow.Author.Rules.{rules}
 use Rattle.saving.proofs.draft.patched.Statement.{statement}
 use Rattle.saving.proofs.draft.patched.Tie as tie
 
-cast-count-at : tie.Need-overflow-cast-count-at
+cast-count-at : tie.Need-overflow_cast-p
 cast-count-at c = search rules
 
-count-at-requires : tie.Need-count-at-requires
+count-at-requires : tie.Need-count_at-n-requires
 count-at-requires c κs = search rules
 
-sub-t10 : tie.Need-overflow-sub-t10
+sub-t10 : tie.Need-overflow_sub-result
 sub-t10 c = search rules
 
 returns : tie.Need-returns
 returns c =
     let a = c.before.before.before in
-    patched-draws a.args.w.now a.args.p _ _ _ _ _ _ a.requires.1 a.requires.2 c.count_at.ensures
+    patched-draws a.args.w.now a.args.p _ _ _ _ _ _ a.requires.1 a.requires.2 c.count_at-n.ensures
 
-pub patched-spec : {M : Type 1} → statement M
-patched-spec = tie.close (tie.spec cast-count-at count-at-requires sub-t10 returns)
+pub patched_spec : {M : Type 1} → statement M
+patched_spec = tie.close (tie.spec cast-count-at count-at-requires sub-t10 returns)

@@ -21,5 +21,5 @@ returns c = λ w.
       };
     }
 
-pub sole-spec : {M : Type 1} → statement M
-sole-spec = tie.close (tie.spec returns)
+pub sole_spec : {M : Type 1} → statement M
+sole_spec = tie.close (tie.spec returns)

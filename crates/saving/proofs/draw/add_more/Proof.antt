@@ -7,55 +7,55 @@ use borrow.Author.Rules.{rules}
 use Rattle.saving.proofs.draw.add_more.Statement.{statement}
 use Rattle.saving.proofs.draw.add_more.Tie as tie
 
-enum_told : tie.Need-enum-told
+enum_told : tie.Need-enum_told-1
 enum_told c = search rules
 
-enum-told-2 : tie.Need-enum-told-2
+enum-told-2 : tie.Need-enum_told-in-Record
 enum-told-2 c = search rules
 
 copy-requires : tie.Need-copy-requires
 copy-requires c κs =
     let a = c.before.before.before.before.before in
-    let room : a.args.at + length a.args.r.now ≤ length a.args.image.now = omega (arith, record-long a.args.r.now _ c.before.enum-told2.given.1, a.requires) in
+    let room : a.args.at + length a.args.r.now ≤ length a.args.image.now = omega (arith, record-long a.args.r.now _ c.before.enum_told-in-Record-1.given.1, a.requires) in
     room
 
-enum-known-more : tie.Need-enum-known-more
+enum-known-more : tie.Need-enum_known-more
 enum-known-more c = search rules
 
-add-entry-requires : tie.Need-add-entry-requires
+add-entry-requires : tie.Need-add_entry-requires
 add-entry-requires c κs =
     let a = c.before.before.before.before.before.before in
-    let room : a.args.at + 8 ≤ length a.args.image.now = omega (arith, entry-long a.args.r.now _ _ _ c.before.before.more.given.1, a.requires) in
+    let room : a.args.at + 8 ≤ length a.args.image.now = omega (arith, entry-long a.args.r.now _ _ _ c.before.before.more-1.given.1, a.requires) in
     room
 
-returns : tie.Need-returns
+returns : tie.Need-returns-in-Nothing
 returns c =
     let a = c.before.before.before.before in
-    let e = c.enum_told.given.1 in
+    let e = c.enum_told-1.given.1 in
     (no-row! _ a.args.image.now _ _ e, none-many a.args.r.now _ e)
 
-same_length : tie.Need-same-length
+same_length : tie.Need-shape_of-image-in-Record
 same_length c = search rules
 
-returns-2 : tie.Need-returns-2
+returns-2 : tie.Need-returns-in-Record
 returns-2 c =
     let t = c.before.before.before.before in
     let a = t.before.before.before.before in
-    let e = t.enum-told2.given.1 in
+    let e = t.enum_told-in-Record-1.given.1 in
     (record-row! _ a.args.image.now _ _ _ e c.before.before.copy.ensures, record-many a.args.r.now _ e)
 
-same-length-2 : tie.Need-same-length-2
+same-length-2 : tie.Need-shape_of-image-in-Entry
 same-length-2 c = search rules
 
-returns-3 : tie.Need-returns-3
+returns-3 : tie.Need-returns-in-Entry
 returns-3 c =
     let t = c.before.before.before.before.before in
     let a = t.before.before.before.before in
-    let e = t.more.given.1 in
-    (entry-row! _ a.args.image.now _ _ _ _ _ e c.before.before.add-entry.ensures, entry-many a.args.r.now _ _ _ e)
+    let e = t.more-1.given.1 in
+    (entry-row! _ a.args.image.now _ _ _ _ _ e c.before.before.add_entry.ensures, entry-many a.args.r.now _ _ _ e)
 
-pub add-more-spec : {M : Type 1} → statement M
-add-more-spec =
+pub add_more_spec : {M : Type 1} → statement M
+add_more_spec =
     tie.close
     (tie.spec
     enum_told

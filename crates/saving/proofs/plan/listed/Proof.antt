@@ -9,5 +9,5 @@ returns : tie.Need-returns
 unfolding planned pick
 returns c = λ w r one two three four. record { same = refl; few = c.requires; one = one; two = two; three = three; four = four }
 
-pub listed-spec : {M : Type 1} → statement M
-listed-spec = tie.close (tie.spec returns)
+pub listed_spec : {M : Type 1} → statement M
+listed_spec = tie.close (tie.spec returns)

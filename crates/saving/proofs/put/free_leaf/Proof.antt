@@ -4,15 +4,15 @@ use borrow.Author.Rules.{rules}
 use Rattle.saving.proofs.put.free_leaf.Statement.{statement}
 use Rattle.saving.proofs.put.free_leaf.Tie as tie
 
-add-t3 : tie.Need-overflow-add-t3
+add-t3 : tie.Need-overflow_add-lowest_empty
 add-t3 c = search rules
 
-lowest-empty-requires : tie.Need-lowest-empty-requires
+lowest-empty-requires : tie.Need-lowest_empty-requires
 lowest-empty-requires c κs = search rules
 
 returns : tie.Need-returns
 unfolding free_leaf
-returns c = c.lowest-empty.ensures
+returns c = c.lowest_empty.ensures
 
-pub free-leaf-spec : {M : Type 1} → statement M
-free-leaf-spec = tie.close (tie.spec add-t3 lowest-empty-requires returns)
+pub free_leaf_spec : {M : Type 1} → statement M
+free_leaf_spec = tie.close (tie.spec add-t3 lowest-empty-requires returns)

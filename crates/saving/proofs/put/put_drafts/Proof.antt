@@ -7,29 +7,29 @@ use borrow.Author.Rules.{rules}
 use Rattle.saving.proofs.put.put_drafts.Statement.{statement}
 use Rattle.saving.proofs.put.put_drafts.Tie as tie
 
-count-at-requires : tie.Need-count-at-requires
+count-at-requires : tie.Need-count_at-requires
 count-at-requires c κs = search rules
 
-put-first-requires : tie.Need-put-first-requires
+put-first-requires : tie.Need-put_first-requires
 put-first-requires c κs = search rules
 
-returns : tie.Need-returns
+returns : tie.Need-returns-then-count_at-eq0
 returns c =
     let n = c.before.before in
     let a = n.before.before.before in
     let w = a.args.w.now in
-    plans-as w a.args.r.now _ _ _ (c.put_first.ensures a.args.r.now) (put_first_lem a.args.r.now w (sym n.count_at.ensures ∙ c.before.if1.true))
+    plans-as w a.args.r.now _ _ _ (c.put_first.ensures a.args.r.now) (put_first_lem a.args.r.now w (sym n.count_at.ensures ∙ c.before.if-count_at-eq0.true))
 
 get4-requires : tie.Need-get4-requires
 get4-requires c κs = search rules
 
-route-to-requires : tie.Need-route-to-requires
+route-to-requires : tie.Need-route_to-x-requires
 route-to-requires c κs = search rules
 
-put-into-requires : tie.Need-put-into-requires
+put-into-requires : tie.Need-put_into-requires
 put-into-requires c κs = search rules
 
-returns-2 : tie.Need-returns-2
+returns-2 : tie.Need-returns
 unfolding key_of
 returns-2 c =
     let x = c.before in
@@ -37,13 +37,13 @@ returns-2 c =
     let n = k.before.before in
     let a = n.before.before.before in
     let w = a.args.w.now in
-    let t = x.route-to.ensures.1 in
-    let same = x.route-to.ensures.0 ∙ k.get4.ensures in
-    plans-as w a.args.r.now _ _ _ (c.put-into.ensures a.args.r.now same)
-    (put-below a.args.r.now w _ _ _ same t.base-is t.leaf-is (λ z. k.before.if1.false (n.count_at.ensures ∙ z)))
+    let t = x.route_to-x.ensures.1 in
+    let same = x.route_to-x.ensures.0 ∙ k.get4.ensures in
+    plans-as w a.args.r.now _ _ _ (c.put_into.ensures a.args.r.now same)
+    (put-below a.args.r.now w _ _ _ same t.base-is t.leaf-is (λ z. k.before.if-count_at-eq0.false (n.count_at.ensures ∙ z)))
 
-pub put-drafts-spec : {M : Type 1} → statement M
-put-drafts-spec =
+pub put_drafts_spec : {M : Type 1} → statement M
+put_drafts_spec =
     tie.close
     (tie.spec
     count-at-requires

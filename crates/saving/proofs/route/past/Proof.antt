@@ -4,36 +4,36 @@ use borrow.Author.Rules.{rules}
 use Rattle.saving.proofs.route.past.Statement.{statement}
 use Rattle.saving.proofs.route.past.Tie as tie
 
-cast-count-at : tie.Need-overflow-cast-count-at
+cast-count-at : tie.Need-overflow_cast-p
 cast-count-at c = search rules
 
-count-at-requires : tie.Need-count-at-requires
+count-at-requires : tie.Need-count_at-requires
 count-at-requires c κs = search rules
 
-returns : tie.Need-returns
+returns : tie.Need-returns-then-count_at-i
 returns c =
     let a = c.before.before.before.before in
-    stands-past a.args.w.now a.args.p.0 a.args.key a.args.i a.requires.0.2 a.requires.1 c.before.count_at.result c.before.count_at.ensures c.if1.true
+    stands-past a.args.w.now a.args.p.0 a.args.key a.args.i a.requires.0.2 a.requires.1 c.before.count_at.result c.before.count_at.ensures c.if-count_at-i.true
 
-key-at-requires : tie.Need-key-at-requires
+key-at-requires : tie.Need-key_at-requires
 key-at-requires c κs = search rules
 
-returns-2 : tie.Need-returns-2
+returns-2 : tie.Need-returns-then-key_at-key
 returns-2 c =
     let a = c.before.before.before.before.before.before in
-    stands-other a.args.w.now a.args.p.0 a.args.key a.args.i a.requires.0.2 a.requires.1 _ c.before.key-at.ensures c.if2.true
+    stands-other a.args.w.now a.args.p.0 a.args.key a.args.i a.requires.0.2 a.requires.1 _ c.before.key_at.ensures c.if-key_at-key.true
 
-add-result : tie.Need-overflow-add-result
+add-result : tie.Need-overflow_add-result
 add-result c = search rules
 
-returns-3 : tie.Need-returns-3
+returns-3 : tie.Need-returns
 returns-3 c =
     let k = c.before in
     let a = k.before.before.before.before.before in
-    stands_here a.args.w.now a.args.p.0 a.args.key a.args.i a.requires.0.2 a.requires.1 _ _ k.before.before.count_at.ensures k.before.if1.false k.key-at.ensures c.if2.false
+    stands_here a.args.w.now a.args.p.0 a.args.key a.args.i a.requires.0.2 a.requires.1 _ _ k.before.before.count_at.ensures k.before.if-count_at-i.false k.key_at.ensures c.if-key_at-key.false
 
-pub past-spec : {M : Type 1} → statement M
-past-spec =
+pub past_spec : {M : Type 1} → statement M
+past_spec =
     tie.close
     (tie.spec
     cast-count-at

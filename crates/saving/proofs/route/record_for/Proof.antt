@@ -4,28 +4,28 @@ use borrow.Author.Rules.{rules}
 use Rattle.saving.proofs.route.record_for.Statement.{statement}
 use Rattle.saving.proofs.route.record_for.Tie as tie
 
-cast-at : tie.Need-overflow-cast-at
+cast-at : tie.Need-overflow_cast-at
 cast-at c = search rules
 
-mul_at : tie.Need-overflow-mul-at
+mul_at : tie.Need-overflow_mul-at
 mul_at c = search rules
 
-cast-count-at : tie.Need-overflow-cast-count-at
+cast-count-at : tie.Need-overflow_cast-p
 cast-count-at c = search rules
 
-count-at-requires : tie.Need-count-at-requires
+count-at-requires : tie.Need-count_at-n-requires
 count-at-requires c κs = search rules
 
-add-leading : tie.Need-overflow-add-leading
+add-leading : tie.Need-overflow_add-at
 add-leading c = search rules
 
-sub-leading : tie.Need-overflow-sub-leading
+sub-leading : tie.Need-slice_bounds-leading-count
 sub-leading c = search rules
 
-part-leading-start : tie.Need-slice-bounds-leading-start
+part-leading-start : tie.Need-slice_bounds-leading-start
 part-leading-start c = search rules
 
-part-leading-end : tie.Need-slice-bounds-leading-end
+part-leading-end : tie.Need-slice_bounds-leading-end
 part-leading-end c = search rules
 
 leading-requires : tie.Need-leading-requires
@@ -34,8 +34,8 @@ leading-requires c κs = search rules
 returns : tie.Need-returns
 returns c = search record-placed!
 
-pub record-for-spec : {M : Type 1} → statement M
-record-for-spec =
+pub record_for_spec : {M : Type 1} → statement M
+record_for_spec =
     tie.close
     (tie.spec
     cast-at

@@ -10,19 +10,19 @@ use borrow.Author.Rules.{rules}
 use Rattle.tree.proofs.build.base_count.Statement.{statement}
 use Rattle.tree.proofs.build.base_count.Tie as tie
 
-pieces-requires : tie.Need-pieces-requires
+pieces-requires : tie.Need-pieces-leaves-requires
 pieces-requires c κs = search rules
 
-pieces-requires-2 : tie.Need-pieces-requires-2
+pieces-requires-2 : tie.Need-pieces-requires
 pieces-requires-2 c κs =
     let a = c.before.before in
-    omega (arith, c.pieces.ensures, pieces-few (length a.args.records.now / 16) a.args.f a.requires.0)
+    omega (arith, c.pieces-leaves.ensures, pieces-few (length a.args.records.now / 16) a.args.f a.requires.0)
 
 returns : tie.Need-returns
 returns c =
     let a = c.before.before.before in
-    c.pieces2.ensures ∙ ap (λ (x : ℕ). pieces x a.args.g) c.before.pieces.ensures
+    c.pieces.ensures ∙ ap (λ (x : ℕ). pieces x a.args.g) c.before.pieces-leaves.ensures
     ∙ sym (base-count a.args.f a.args.g (length a.args.records.now / 16) a.args.records.now a.requires.0 a.requires.2)
 
-pub base-count-spec : {M : Type 1} → statement M
-base-count-spec = tie.close (tie.spec pieces-requires pieces-requires-2 returns)
+pub base_count_spec : {M : Type 1} → statement M
+base_count_spec = tie.close (tie.spec pieces-requires pieces-requires-2 returns)

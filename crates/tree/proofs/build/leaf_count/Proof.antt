@@ -17,5 +17,5 @@ returns c =
     let one : 1 ≤ 1 = omega arith in
     c.pieces.ensures ∙ sym (leaf-count a.args.f 1 (length a.args.records.now / 16) a.args.records.now a.requires.0 one)
 
-pub leaf-count-spec : {M : Type 1} → statement M
-leaf-count-spec = tie.close (tie.spec pieces-requires returns)
+pub leaf_count_spec : {M : Type 1} → statement M
+leaf_count_spec = tie.close (tie.spec pieces-requires returns)

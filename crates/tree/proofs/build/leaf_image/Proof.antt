@@ -11,43 +11,43 @@ use borrow.Author.Rules.{rules}
 use Rattle.tree.proofs.build.leaf_image.Statement.{statement}
 use Rattle.tree.proofs.build.leaf_image.Tie as tie
 
-mul-first : tie.Need-overflow-mul-first
+mul-first : tie.Need-overflow_mul-first
 mul-first c = search rules
 
-sub-left : tie.Need-overflow-sub-left
+sub-left : tie.Need-overflow_sub-left
 sub-left c = search rules
 
-least-requires : tie.Need-least-requires
+least-requires : tie.Need-least-k-requires
 least-requires c κs = search rules
 
-mul_at : tie.Need-overflow-mul-at
+mul_at : tie.Need-overflow_mul-at
 mul_at c = search rules
 
 blank-requires : tie.Need-blank-requires
 blank-requires c κs = search rules
 
-mul-with-rows : tie.Need-overflow-mul-with-rows
+mul-with-rows : tie.Need-overflow_mul-k
 mul-with-rows c = search rules
 
-add-with-rows : tie.Need-overflow-add-with-rows
+add-with-rows : tie.Need-overflow_add-at
 add-with-rows c = search rules
 
-sub-with-rows : tie.Need-overflow-sub-with-rows
+sub-with-rows : tie.Need-slice_bounds-with_rows-count
 sub-with-rows c = search rules
 
-part-with-rows-start : tie.Need-slice-bounds-with-rows-start
+part-with-rows-start : tie.Need-slice_bounds-with_rows-start
 part-with-rows-start c = search rules
 
-part-with-rows-end : tie.Need-slice-bounds-with-rows-end
+part-with-rows-end : tie.Need-slice_bounds-with_rows-end
 part-with-rows-end c = search rules
 
-cast-with-rows : tie.Need-overflow-cast-with-rows
+cast-with-rows : tie.Need-overflow_cast-k
 cast-with-rows c = search rules
 
-with-rows-requires : tie.Need-with-rows-requires
+with-rows-requires : tie.Need-with_rows-requires
 with-rows-requires c κs =
     let im = c.before.blank in
-    let m = c.before.before.least in
+    let m = c.before.before.least-k in
     let a = c.before.before.before.before in
     let at = 16 * (a.args.f * a.args.i) in
     let rs = a.args.records.now in
@@ -60,15 +60,15 @@ with-rows-requires c κs =
 returns : tie.Need-returns
 returns c =
     let im = c.before.before.blank in
-    let m = c.before.before.before.least in
+    let m = c.before.before.before.least-k in
     let a = c.before.before.before.before.before in
     let at = 16 * (a.args.f * a.args.i) in
     let rs = a.args.records.now in
     leaf-image im.result c.with_rows.result _ im.ensures c.with_rows.ensures
     ∙ ap (fresh leaf) (leaf-rows (length rs / 16) a.args.f a.args.i m.result at rs (omega arith) a.requires.2 refl m.ensures)
 
-pub leaf-image-spec : {M : Type 1} → statement M
-leaf-image-spec =
+pub leaf_image_spec : {M : Type 1} → statement M
+leaf_image_spec =
     tie.close
     (tie.spec
     mul-first

@@ -8,5 +8,5 @@ returns : tie.Need-returns
 unfolding zeroes
 returns c = search rules
 
-pub missing-spec : {M : Type 1} → statement M
-missing-spec = tie.close (tie.spec returns)
+pub missing_spec : {M : Type 1} → statement M
+missing_spec = tie.close (tie.spec returns)

@@ -4,17 +4,17 @@ use borrow.Author.Rules.{rules}
 use Rattle.tree.proofs.find.node_ok.Statement.{statement}
 use Rattle.tree.proofs.find.node_ok.Tie as tie
 
-is-root-requires : tie.Need-is-root-requires
+is-root-requires : tie.Need-is_root-requires
 is-root-requires c κs = search rules
 
-returns : tie.Need-returns
+returns : tie.Need-returns-then-p-eq0
 returns c = search node-root!
 
-is-base-requires : tie.Need-is-base-requires
+is-base-requires : tie.Need-is_base-requires
 is-base-requires c κs = search rules
 
-returns-2 : tie.Need-returns-2
+returns-2 : tie.Need-returns
 returns-2 c = search node-base!
 
-pub node-ok-spec : {M : Type 1} → statement M
-node-ok-spec = tie.close (tie.spec is-root-requires returns is-base-requires returns-2)
+pub node_ok_spec : {M : Type 1} → statement M
+node_ok_spec = tie.close (tie.spec is-root-requires returns is-base-requires returns-2)

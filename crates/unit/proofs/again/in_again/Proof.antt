@@ -6,37 +6,37 @@ use borrow.Author.Rules.{rules}
 use Rattle.unit.proofs.again.in_again.Statement.{statement}
 use Rattle.unit.proofs.again.in_again.Tie as tie
 
-source-at-requires : tie.Need-source-at-requires
+source-at-requires : tie.Need-source_at-at-requires
 source-at-requires c κs = search rules
 
-add_at : tie.Need-overflow-add-at
+add_at : tie.Need-overflow_add-at
 add_at c = search rules
 
-source-rows-requires : tie.Need-source-rows-requires
+source-rows-requires : tie.Need-source_rows-k-requires
 source-rows-requires c κs = search rules
 
-cast-end : tie.Need-overflow-cast-end
+cast-end : tie.Need-overflow_cast-end
 cast-end c = search rules
 
-mul-end : tie.Need-overflow-mul-end
+mul-end : tie.Need-overflow_mul-end
 mul-end c = search rules
 
-add-end : tie.Need-overflow-add-end
+add-end : tie.Need-overflow_add-end
 add-end c = search rules
 
-sub-repeat-in : tie.Need-overflow-sub-repeat-in
+sub-repeat-in : tie.Need-slice_bounds-repeat_in-count
 sub-repeat-in c = search rules
 
-part-repeat-in-start : tie.Need-slice-bounds-repeat-in-start
+part-repeat-in-start : tie.Need-slice_bounds-repeat_in-start
 part-repeat-in-start c = search rules
 
-part-repeat-in-end : tie.Need-slice-bounds-repeat-in-end
+part-repeat-in-end : tie.Need-slice_bounds-repeat_in-end
 part-repeat-in-end c = search rules
 
-add-t16 : tie.Need-overflow-add-t16
+add-t16 : tie.Need-overflow_add-w
 add-t16 c = search rules
 
-repeat-in-requires : tie.Need-repeat-in-requires
+repeat-in-requires : tie.Need-repeat_in-requires
 repeat-in-requires c κs =
     let a = c.before.before.before.before.before.before.before in
     let k = c.before.before.before in
@@ -45,12 +45,12 @@ repeat-in-requires c κs =
       (
         omega arith,
         omega arith,
-        rows_long a.args.log.now (i.source-at.result + 20) k.source-rows.result (omega arith),
-        in_order_lem a.args.log.now a.args.w _ _ _ i.source-at.ensures k.source-rows.ensures a.requires.2.4 a.requires.2.5,
+        rows_long a.args.log.now (i.source_at-at.result + 20) k.source_rows-k.result (omega arith),
+        in_order_lem a.args.log.now a.args.w _ _ _ i.source_at-at.ensures k.source_rows-k.ensures a.requires.2.4 a.requires.2.5,
       ),
     )
 
-same_length : tie.Need-same-length
+same_length : tie.Need-shape_of-work
 same_length c = search rules
 
 returns : tie.Need-returns
@@ -58,11 +58,11 @@ returns c =
     let a = c.before.before.before.before.before.before.before.before.before.before in
     let k = c.before.before.before.before.before.before in
     let i = c.before.before.before.before.before.before.before in
-    (λ org. in-redone a.args.log.now a.args.w _ _ _ i.source-at.ensures k.source-rows.ensures a.requires.2.4 _ _ _ _ org _
-    (c.before.before.repeat-in.ensures org a.args.back))
+    (λ org. in-redone a.args.log.now a.args.w _ _ _ i.source_at-at.ensures k.source_rows-k.ensures a.requires.2.4 _ _ _ _ org _
+    (c.before.before.repeat_in.ensures org a.args.back))
 
-pub in-again-spec : {M : Type 1} → statement M
-in-again-spec =
+pub in_again_spec : {M : Type 1} → statement M
+in_again_spec =
     tie.close
     (tie.spec
     source-at-requires

@@ -4,22 +4,22 @@ use borrow.Author.Rules.{rules}
 use Rattle.unit.proofs.apply.can_bring_in.Statement.{statement}
 use Rattle.unit.proofs.apply.can_bring_in.Tie as tie
 
-cast-at : tie.Need-overflow-cast-at
+cast-at : tie.Need-overflow_cast-at
 cast-at c = search rules
 
-mul_at : tie.Need-overflow-mul-at
+mul_at : tie.Need-overflow_mul-at
 mul_at c = search rules
 
-add-takes : tie.Need-overflow-add-takes
+add-takes : tie.Need-overflow_add-at
 add-takes c = search rules
 
-sub-takes : tie.Need-overflow-sub-takes
+sub-takes : tie.Need-slice_bounds-takes-count
 sub-takes c = search rules
 
-part-takes-start : tie.Need-slice-bounds-takes-start
+part-takes-start : tie.Need-slice_bounds-takes-start
 part-takes-start c = search rules
 
-part-takes-end : tie.Need-slice-bounds-takes-end
+part-takes-end : tie.Need-slice_bounds-takes-end
 part-takes-end c = search rules
 
 takes-requires : tie.Need-takes-requires
@@ -28,8 +28,8 @@ takes-requires c κs = search rules
 returns : tie.Need-returns
 returns c = search in-can
 
-pub can-bring-in-spec : {M : Type 1} → statement M
-can-bring-in-spec =
+pub can_bring_in_spec : {M : Type 1} → statement M
+can_bring_in_spec =
     tie.close
     (tie.spec
     cast-at

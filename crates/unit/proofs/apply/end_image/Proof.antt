@@ -7,29 +7,29 @@ use Rattle.unit.proofs.apply.end_image.Tie as tie
 stamped-requires : tie.Need-stamped-requires
 stamped-requires c κs = search rules
 
-same_length : tie.Need-same-length
+same_length : tie.Need-shape_of-w-then-stamped
 same_length c = search rules
 
-returns : tie.Need-returns
+returns : tie.Need-returns-then-stamped
 returns c = search laid-old!
 
-cast-copy : tie.Need-overflow-cast-copy
+cast-copy : tie.Need-overflow_cast-p
 cast-copy c = search rules
 
-mul-copy : tie.Need-overflow-mul-copy
+mul-copy : tie.Need-overflow_mul-p
 mul-copy c = search rules
 
 copy-requires : tie.Need-copy-requires
 copy-requires c κs = search rules
 
-same-length-2 : tie.Need-same-length-2
+same-length-2 : tie.Need-shape_of-w
 same-length-2 c = search rules
 
-returns-2 : tie.Need-returns-2
+returns-2 : tie.Need-returns
 returns-2 c = search laid-new!
 
-pub end-image-spec : {M : Type 1} → statement M
-end-image-spec =
+pub end_image_spec : {M : Type 1} → statement M
+end_image_spec =
     tie.close
     (tie.spec
     stamped-requires

@@ -4,17 +4,17 @@ use borrow.Author.Rules.{rules}
 use Rattle.unit.proofs.apply.open_to.Statement.{statement}
 use Rattle.unit.proofs.apply.open_to.Tie as tie
 
-is-empty-requires : tie.Need-is-empty-requires
+is-empty-requires : tie.Need-is_empty-requires
 is-empty-requires c κs = search rules
 
-returns : tie.Need-returns
+returns : tie.Need-returns-then-is_empty
 returns c = search open-empty!
 
-is-leaf-requires : tie.Need-is-leaf-requires
+is-leaf-requires : tie.Need-is_leaf-requires
 is-leaf-requires c κs = search rules
 
-returns-2 : tie.Need-returns-2
+returns-2 : tie.Need-returns
 returns-2 c = search open-leaf!
 
-pub open-to-spec : {M : Type 1} → statement M
-open-to-spec = tie.close (tie.spec is-empty-requires returns is-leaf-requires returns-2)
+pub open_to_spec : {M : Type 1} → statement M
+open_to_spec = tie.close (tie.spec is-empty-requires returns is-leaf-requires returns-2)

@@ -4,10 +4,10 @@ use borrow.Author.Rules.{rules}
 use Rattle.unit.proofs.apply.take_all.Statement.{statement}
 use Rattle.unit.proofs.apply.take_all.Tie as tie
 
-make-empty-at-requires : tie.Need-make-empty-at-requires
+make-empty-at-requires : tie.Need-make_empty_at-requires
 make-empty-at-requires c κs = search rules
 
-same_length : tie.Need-same-length
+same_length : tie.Need-shape_of-w
 same_length c = search rules
 
 returns : tie.Need-returns

@@ -6,35 +6,35 @@ use borrow.Author.Rules.{rules}
 use Rattle.unit.proofs.apply.takes.Statement.{statement}
 use Rattle.unit.proofs.apply.takes.Tie as tie
 
-open-to-requires : tie.Need-open-to-requires
+open-to-requires : tie.Need-open_to-requires
 open-to-requires c κs = search rules
 
-returns : tie.Need-returns
+returns : tie.Need-returns-then-not-open_to
 returns c = search takes-page!
 
 count-requires : tie.Need-count-requires
 count-requires c κs = search takes_whole
 
-add-if2 : tie.Need-overflow-add-if2
+add-if2 : tie.Need-overflow_add-count
 add-if2 c = let f : c.count.result ≤ 15 = search takes-few in omega arith
 
-returns-2 : tie.Need-returns-2
+returns-2 : tie.Need-returns-then-count-k-gt15
 returns-2 c = search takes-room!
 
-least-after-requires : tie.Need-least-after-requires
+least-after-requires : tie.Need-least_after-requires
 least-after-requires c κs = search takes-open
 
 get4-requires : tie.Need-get4-requires
 get4-requires c κs = search rules
 
-cast-result : tie.Need-overflow-cast-result
+cast-result : tie.Need-overflow_cast-result
 cast-result c = search rules
 
-returns-3 : tie.Need-returns-3
+returns-3 : tie.Need-returns
 returns-3 c = search takes-keys!
 
-pub takes-spec : {M : Type 1} → statement M
-takes-spec =
+pub takes_spec : {M : Type 1} → statement M
+takes_spec =
     tie.close
     (tie.spec
     open-to-requires

@@ -12,5 +12,5 @@ returns : tie.Need-returns
 unfolding chosen when zeroes move_of
 returns c = record { unit = λ u. refl; some-bases = omega arith; spare-bases = refl; some-leaves = omega arith; spare-leaves = refl }
 
-pub moving-spec : {M : Type 1} → statement M
-moving-spec = tie.close (tie.spec returns)
+pub moving_spec : {M : Type 1} → statement M
+moving_spec = tie.close (tie.spec returns)

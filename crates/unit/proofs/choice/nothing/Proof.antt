@@ -11,5 +11,5 @@ returns : tie.Need-returns
 unfolding chosen when zeroes
 returns c = record { unit = λ u. refl; some-bases = omega arith; spare-bases = refl; some-leaves = omega arith; spare-leaves = refl }
 
-pub nothing-spec : {M : Type 1} → statement M
-nothing-spec = tie.close (tie.spec returns)
+pub nothing_spec : {M : Type 1} → statement M
+nothing_spec = tie.close (tie.spec returns)

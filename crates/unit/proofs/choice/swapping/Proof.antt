@@ -9,25 +9,25 @@ use Rattle.unit.specs.Chosen.{chosen}
 use Rattle.unit.proofs.choice.swapping.Statement.{statement}
 use Rattle.unit.proofs.choice.swapping.Tie as tie
 
-returns : tie.Need-returns
+returns : tie.Need-returns-then-other-base
 unfolding chosen when zeroes swap_of one_or_two pick
 returns c = record {
-  unit = λ u. rw (eq-eqb _ _ c.if1.true);
+  unit = λ u. rw (eq-eqb _ _ c.if-other-base.true);
   some-bases = omega arith;
   spare-bases = refl;
   some-leaves = omega arith;
   spare-leaves = refl;
 }
 
-returns-2 : tie.Need-returns-2
+returns-2 : tie.Need-returns
 unfolding chosen when zeroes swap_of one_or_two pick
 returns-2 c = record {
-  unit = λ u. rw (ne_eqb _ _ c.if1.false);
+  unit = λ u. rw (ne_eqb _ _ c.if-other-base.false);
   some-bases = omega arith;
   spare-bases = refl;
   some-leaves = omega arith;
   spare-leaves = refl;
 }
 
-pub swapping-spec : {M : Type 1} → statement M
-swapping-spec = tie.close (tie.spec returns returns-2)
+pub swapping_spec : {M : Type 1} → statement M
+swapping_spec = tie.close (tie.spec returns returns-2)

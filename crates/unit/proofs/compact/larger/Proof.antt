@@ -5,13 +5,13 @@ use Rattle.unit.specs.Choice.{larger}
 use Rattle.unit.proofs.compact.larger.Statement.{statement}
 use Rattle.unit.proofs.compact.larger.Tie as tie
 
-returns : tie.Need-returns
+returns : tie.Need-returns-then-a-b
 unfolding larger pick
-returns c = rw (le-leb _ _ c.if1.true)
+returns c = rw (le-leb _ _ c.if-a-b.true)
 
-returns-2 : tie.Need-returns-2
+returns-2 : tie.Need-returns
 unfolding larger pick
-returns-2 c = rw (lt-leb _ _ c.if1.false)
+returns-2 c = rw (lt-leb _ _ c.if-a-b.false)
 
-pub larger-spec : {M : Type 1} → statement M
-larger-spec = tie.close (tie.spec returns returns-2)
+pub larger_spec : {M : Type 1} → statement M
+larger_spec = tie.close (tie.spec returns returns-2)

@@ -11,49 +11,49 @@ use native.Mathlib.Omega.{arith}
 use Rattle.unit.proofs.compact.listing.Statement.{statement}
 use Rattle.unit.proofs.compact.listing.Tie as tie
 
-abbrev invariant-loop : tie.invariant-loop
+abbrev invariant-loop : tie.invariant-loop-i
 invariant-loop pg start k list₀ i₀ list i =
     (i ≤ k) × (list ≡ to_pages (rows_of 8 i (drop start pg)) ++ zeroes (8 - i))
 
-abbrev decreases-loop : tie.decreases-loop
+abbrev decreases-loop : tie.decreases-loop-i
 decreases-loop pg start k list₀ i₀ list i = k - i
 
-loop-holds : tie.Need-loop-init invariant-loop decreases-loop
+loop-holds : tie.Need-loop-i-init invariant-loop decreases-loop
 unfolding to_pages rows_of zeroes
 loop-holds c = (omega arith, refl)
 
-mul-get2 : tie.Need-overflow-mul-get2 invariant-loop decreases-loop
+mul-get2 : tie.Need-overflow_mul-i invariant-loop decreases-loop
 mul-get2 c = omega arith
 
-add-get2 : tie.Need-overflow-add-get2 invariant-loop decreases-loop
+add-get2 : tie.Need-overflow_add-start invariant-loop decreases-loop
 add-get2 c = omega arith
 
-add-get2-2 : tie.Need-overflow-add-get2-2 invariant-loop decreases-loop
+add-get2-2 : tie.Need-overflow_add-start-in-loop-i invariant-loop decreases-loop
 add-get2-2 c = omega arith
 
 get2-requires : tie.Need-get2-requires invariant-loop decreases-loop
 get2-requires c κs = omega arith
 
-mul-list : tie.Need-overflow-mul-list invariant-loop decreases-loop
+mul-list : tie.Need-offset_bounds-list-i invariant-loop decreases-loop
 mul-list c = omega arith
 
-array-write-list : tie.Need-array-write-list invariant-loop decreases-loop
+array-write-list : tie.Need-bounds-list-i invariant-loop decreases-loop
 array-write-list c = omega arith
 
-add-i : tie.Need-overflow-add-i invariant-loop decreases-loop
+add-i : tie.Need-overflow_add-i invariant-loop decreases-loop
 add-i c = omega arith
 
-loop-less : tie.Need-loop-smaller invariant-loop decreases-loop
+loop-less : tie.Need-loop-i-smaller invariant-loop decreases-loop
 loop-less c = omega arith
 
-loop-again : tie.Need-loop-preserved invariant-loop decreases-loop
+loop-again : tie.Need-loop-i-preserved invariant-loop decreases-loop
 loop-again c = (omega arith, search list-more!)
 
 returns : tie.Need-returns invariant-loop decreases-loop
 returns c = search list-end!
 
-pub listing-spec : {M : Type 1} → statement M
-listing-spec =
+pub listing_spec : {M : Type 1} → statement M
+listing_spec =
     tie.close
     (tie.spec
     invariant-loop

@@ -11,52 +11,52 @@ use native.Mathlib.Omega.{arith}
 use Rattle.unit.proofs.entry.lowest_to.Statement.{statement}
 use Rattle.unit.proofs.entry.lowest_to.Tie as tie
 
-abbrev invariant-loop : tie.invariant-loop
+abbrev invariant-loop : tie.invariant-loop-left
 invariant-loop pg n p skip skipped at₀ left₀ at left =
     (left ≤ n) × (at + 8 * left ≤ length pg)
     × (lowest_to (when skip skipped) p.0 (rows_of 8 n (drop 16 pg)) ≡ lowest_to (when skip skipped) p.0 (rows_of 8 left (drop at pg)))
 
-abbrev decreases-loop : tie.decreases-loop
+abbrev decreases-loop : tie.decreases-loop-left
 decreases-loop pg n p skip skipped at₀ left₀ at left = left
 
-loop-holds : tie.Need-loop-init invariant-loop decreases-loop
+loop-holds : tie.Need-loop-left-init invariant-loop decreases-loop
 loop-holds c = (omega arith, omega arith, refl)
 
-add-get4 : tie.Need-overflow-add-get4 invariant-loop decreases-loop
+add-get4 : tie.Need-overflow_add-at invariant-loop decreases-loop
 add-get4 c = omega arith
 
-get4-requires : tie.Need-get4-requires invariant-loop decreases-loop
+get4-requires : tie.Need-get4-k-requires invariant-loop decreases-loop
 get4-requires c κs = omega arith
 
-add-get2 : tie.Need-overflow-add-get2 invariant-loop decreases-loop
+add-get2 : tie.Need-overflow_add-at-in-loop-left invariant-loop decreases-loop
 add-get2 c = omega arith
 
 get2-requires : tie.Need-get2-requires invariant-loop decreases-loop
 get2-requires c κs = omega arith
 
-may-take-requires : tie.Need-may-take-requires invariant-loop decreases-loop
+may-take-requires : tie.Need-may_take-requires invariant-loop decreases-loop
 may-take-requires c κs = search rules
 
-returns : tie.Need-returns invariant-loop decreases-loop
+returns : tie.Need-returns-then-may_take invariant-loop decreases-loop
 returns c = search lowest-stop!
 
-add_at : tie.Need-overflow-add-at invariant-loop decreases-loop
+add_at : tie.Need-overflow_add-at-in-loop-left-2 invariant-loop decreases-loop
 add_at c = omega arith
 
-sub-left : tie.Need-overflow-sub-left invariant-loop decreases-loop
+sub-left : tie.Need-overflow_sub-left invariant-loop decreases-loop
 sub-left c = omega arith
 
-loop-less : tie.Need-loop-smaller invariant-loop decreases-loop
+loop-less : tie.Need-loop-left-smaller invariant-loop decreases-loop
 loop-less c = omega arith
 
-loop-again : tie.Need-loop-preserved invariant-loop decreases-loop
+loop-again : tie.Need-loop-left-preserved invariant-loop decreases-loop
 loop-again c = (omega arith, omega arith, search lowest-more!)
 
-returns-2 : tie.Need-returns-2 invariant-loop decreases-loop
+returns-2 : tie.Need-returns invariant-loop decreases-loop
 returns-2 c = search lowest-end!
 
-pub lowest-to-spec : {M : Type 1} → statement M
-lowest-to-spec =
+pub lowest_to_spec : {M : Type 1} → statement M
+lowest_to_spec =
     tie.close
     (tie.spec
     invariant-loop

@@ -1,5 +1,6 @@
 // Begin compact and begin order: they differ in a test and in the choice of the unit.
 #![tactic(auto)]
+
 ghost use Rattle.std.specs.Prelude.{◌≡◌, []};
 ghost use Rattle.store.specs.Calls.{lent, left, begin_compact, begin_order};
 

@@ -21,6 +21,7 @@
 // range reader the count, 4, and the room. A dump is work, store and log at their lent lengths, used 4 and forced 4. The end of input between
 // commands ends the program. A command that is unknown, cut short or out of these limits writes one byte 255 and ends it.
 #![tactic(auto)]
+
 mod build;
 mod change;
 mod input;

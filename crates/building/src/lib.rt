@@ -1,5 +1,6 @@
 // Build.
 #![tactic(auto)]
+
 ghost use Rattle.std.specs.Prelude.{◌≡◌, []};
 ghost use Rattle.store.specs.Calls.{lent, left, build};
 ghost use Rattle.building.specs.Ranges.{in_range};

@@ -1,5 +1,6 @@
 // Little-endian numbers in lent bytes, runs of zeros, copying, and the paper's three counters.
 #![tactic(auto)]
+
 ghost use Rattle.std.specs.Prelude.{◌≡◌, ◌+◌, ◌*◌, ◌≤◌, ◌<◌, length, eqb};
 ghost use Rattle.field.specs.Bytes.{part, put, zeroes, all_zero, same, le2, le4, bytes2, bytes4};
 

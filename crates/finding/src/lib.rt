@@ -1,5 +1,6 @@
 // Find, which answers from the pages and changes nothing.
 #![tactic(auto)]
+
 ghost use Rattle.std.specs.Prelude.{◌≡◌, []};
 ghost use Rattle.field.specs.Bytes.{zeroes};
 ghost use Rattle.store.specs.Calls.{lent, left, find};

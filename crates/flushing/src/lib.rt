@@ -1,5 +1,6 @@
 // Flush.
 #![tactic(auto)]
+
 ghost use Rattle.std.specs.Prelude.{◌≡◌, [], ◌<◌, length};
 ghost use Rattle.page.specs.Page.{number};
 ghost use Rattle.page.specs.Pages.{page, put_page};

@@ -1,5 +1,6 @@
 // Force.
 #![tactic(auto)]
+
 ghost use Rattle.std.specs.Prelude.{◌≡◌, []};
 ghost use Rattle.store.specs.Calls.{lent, left, force};
 

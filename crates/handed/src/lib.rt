@@ -2,6 +2,7 @@
 // back. Code that lends a record is proved by hand; it stands here, once, so that the service bench calls these as it would call `store`, and
 // through them the very calls that users link. Each contract is that of the same call in `store`.
 #![tactic(auto)]
+
 ghost use Rattle.std.specs.Prelude.{◌≡◌, [], ◌∷◌};
 ghost use Rattle.field.specs.Test.{pick};
 ghost use Rattle.store.specs.Calls.{lent, left, build, recover, begin_compact, begin_order, begin_put, begin_delete, step, flush, force, checkpoint, find, list};

@@ -1,6 +1,7 @@
 // Lists a store and its log, read from standard input, the store first: recovers, then prints a line for each leaf in key order and the
 // totals, or `refused` and the number of the reply. Input of another length than 24,576 bytes is refused as 1.
 #![tactic(auto)]
+
 mod text;
 mod walk;
 

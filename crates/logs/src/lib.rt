@@ -1,5 +1,6 @@
 // The log: the table of record kinds, writing a record, and reading a whole log in one pass.
 #![tactic(auto)]
+
 pub mod kind;
 pub mod opening;
 pub mod past;

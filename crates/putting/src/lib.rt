@@ -1,5 +1,6 @@
 // Begin put and begin delete: the pages that the unit changes are worked out, and its LB is written with the record.
 #![tactic(auto)]
+
 ghost use Rattle.std.specs.Prelude.{◌≡◌, List, [], ℕ, ◌+◌, ◌≤◌, length};
 ghost use Rattle.logs.specs.Log.{State};
 ghost use Rattle.logs.specs.Scan.{shown};

@@ -3,6 +3,7 @@
 // refuse has list's reply and gives no record; one that is made up, of any pages and any position, gives a record or none and reads
 // nothing outside the pages.
 #![tactic(auto)]
+
 ghost use Rattle.std.specs.Prelude.{◌≡◌};
 ghost use Rattle.ranging.specs.Reading.{start_from, next_from};
 

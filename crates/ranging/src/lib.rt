@@ -1,6 +1,7 @@
 // What the range reader rests on: where it starts and what a step gives, on the pages and a position of plain numbers. Both take any pages,
 // of any length, and any position; each read is tested against the page's letter and count first.
 #![tactic(auto)]
+
 ghost use Rattle.std.specs.Prelude.{◌≡◌, ◌+◌, ◌*◌, ◌≤◌, ◌<◌, length};
 ghost use Rattle.page.specs.Page.{count, rows};
 ghost use Rattle.page.specs.Pages.{page};

@@ -1,6 +1,7 @@
 // Recovery: the work pages are made anew from the store and the log. Its tests come in the order 1, 2, 3, 4, then 5, 6 and 7 as met record by
 // record, then 8. A refusal past test 1 zeroes the work pages, and one that comes after records were appended takes them back first.
 #![tactic(auto)]
+
 ghost use Rattle.std.specs.Prelude.{◌≡◌, ℕ, List, [], ◌∷◌};
 ghost use Rattle.store.specs.Calls.{lent, left, recover};
 ghost use Rattle.recovering.specs.Finishes.{Found, finishing, Finishes, completing};

@@ -1,5 +1,6 @@
 // What both begins have in common: tests 9, 3 and 8, then, for a chosen unit, tests 6 and 7 and its LB.
 #![tactic(auto)]
+
 ghost use Rattle.std.specs.Prelude.{◌≡◌, [], ◌+◌, ◌≤◌, length};
 ghost use Rattle.field.specs.Bytes.{put};
 ghost use Rattle.logs.specs.Record.{begin, LB, encode};

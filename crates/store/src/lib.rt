@@ -3,6 +3,7 @@
 // `beginning`, `putting`, `stepping`, `recovering`, `flushing`, `forcing`, `checkpointing`, `finding`, `answering`). None of them has a `requires`: each
 // tests what it is lent, in the order that document 01 or 02 gives, and its contract says that all it leaves is what its definition leaves.
 #![tactic(auto)]
+
 pub mod fresh;
 pub mod known;
 

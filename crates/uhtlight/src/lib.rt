@@ -2,6 +2,7 @@
 // its core a copy of that record, puts what comes back in its place and returns the rest; so its contract is the core's, with the record at
 // entry and at exit for the numbers. Beside them stand the range reader's two, lent the work pages alone. These are also the names that C has.
 #![tactic(auto)]
+
 ghost use Rattle.std.specs.Prelude.{◌≡◌, [], ◌∷◌};
 ghost use Rattle.field.specs.Test.{pick};
 ghost use Rattle.ranging.specs.Reading.{start_from, next_from};

@@ -1,5 +1,6 @@
 // What recovery answers, and the parts of it that want no unit: its refusals, the test of the pages' numbers, and the accepted answer.
 #![tactic(auto)]
+
 ghost use Rattle.std.specs.Prelude.{◌≡◌, ◌-◌, ◌≤◌, length};
 ghost use Rattle.field.specs.Bytes.{put, zeroes};
 ghost use Rattle.page.specs.Pages.{pages};

@@ -1,0 +1,24 @@
+-- `page::form::is_base` meets its contract: entries, at least one, to leaf pages. Assumes nothing.
+use mathlib.Core.Bool.{not}
+use mathlib.Core.Path.{ap}
+use native.Mathlib.Omega.{arith}
+use Rattle.page.specs.Page.{first_leaf, last_leaf, is_base}
+use Rattle.page.proofs.Tests.{head-whole, head-most, points-head!, points-body! }
+use borrow.Author.Rules.{rules}
+use Rattle.page.proofs.form.is_base.Goals as goal
+
+pub returns-then-not-head_ok : goal.returns-then-not-head_ok
+unfolding is_base
+returns-then-not-head_ok c = let a = c in points-head! 98 8 101 110 1 30 a.args.pg.now _ c.head_ok.ensures first_leaf last_leaf (ap not c.if-not-head_ok.true)
+
+pub entries_ok-requires : goal.entries_ok-requires
+entries_ok-requires c =
+    let pg = c.args.pg.now in
+    let h = c.head_ok.ensures in
+    (head-whole 98 1 30 pg _ h (ap not c.if-not-head_ok.false), head-most 98 1 30 pg _ h (ap not c.if-not-head_ok.false), omega arith, omega arith)
+
+pub returns : goal.returns
+unfolding is_base
+returns c =
+    let a = c in
+    points-body! 98 8 101 110 1 30 a.args.pg.now _ c.head_ok.ensures first_leaf last_leaf (ap not c.if-not-head_ok.false) _ c.entries_ok.ensures

@@ -1,0 +1,13 @@
+-- `page::place::redirect_at` meets its contract: the entry of the page that is lent is pointed elsewhere. Assumes nothing.
+use Rattle.page.proofs.Pages.{lent-page, back-kept}
+use borrow.Author.Rules.{rules}
+use Rattle.page.proofs.place.redirect_at.Goals as goal
+
+pub redirect-requires : goal.redirect-requires
+redirect-requires c = rw lent-page c.requires.w_value
+
+pub returns : goal.returns
+returns c =
+    let a = c in
+    let x = c.redirect in
+    cc (lent-page a.args.p.0 a.args.w.now, back-kept a.args.p.0 a.args.w.now x.new.0 a.requires.w_len.0 a.requires.w_len.1 x.auto.0)

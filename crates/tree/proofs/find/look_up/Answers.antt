@@ -7,7 +7,7 @@ use Rattle.tree.proofs.find.look_up.Goals as goal
 pub down-requires-in-To : goal.down-requires-in-To
 down-requires-in-To c =
     let a = c in
-    let s = base-small a.args.key a.args.w.now a.down.result a.down.ensures _ c.b-1.given.1 in
+    let s = base-small a.args.key a.args.w.now a.down.result a.down.ensures _ c.in-To.is in
     (a.requires, omega arith)
 
 pub in_leaf-requires : goal.in_leaf-requires
@@ -16,8 +16,8 @@ in_leaf-requires c =
     let b = d in
     let a = b in
     let start = a in
-    let s = leaf-small start.args.key start.args.w.now a.down.result a.down.ensures _ b.b-1.given.1 d.down-in-To.result d.down-in-To.ensures
-    _ c.p-1.given.1 in
+    let s = leaf-small start.args.key start.args.w.now a.down.result a.down.ensures _ b.in-To.is d.down-in-To.result d.down-in-To.ensures
+    _ c.in-To-down.is in
     (start.requires, omega arith, omega arith)
 
 pub returns-in-Refused : goal.returns-in-Refused

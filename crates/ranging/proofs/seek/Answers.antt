@@ -40,7 +40,7 @@ entry_to-b-requires c =
     (a.requires.form.whole, omega arith, omega (arith, root-fits _ a.requires), omega (arith, some (goal.at.entry_to-b-requires c).Else-o-eq0, top-few _ a.requires _ _ c.rows_below_at-o.ensures))
 
 pub rows_below_at-i-requires : goal.rows_below_at-i-requires
-rows_below_at-i-requires c = (c.requires.form.whole, (over (goal.at.rows_below_at-i-requires c).After-entry_to-b).base.inside, omega arith, (over (goal.at.rows_below_at-i-requires c).After-entry_to-b).base.ranges)
+rows_below_at-i-requires c = (c.requires.form.whole, (over (goal.at.rows_below_at-i-requires c).After-entry_to-b).base.inside, omega arith, (over (goal.at.rows_below_at-i-requires c).After-entry_to-b).base.fits)
 
 pub overflow_sub-i : goal.overflow_sub-i
 overflow_sub-i c = low (goal.at.overflow_sub-i c).After-rows_below_at-i
@@ -61,7 +61,7 @@ entry_to-p-requires c =
     )
 
 pub rows_below_at-r-requires : goal.rows_below_at-r-requires
-rows_below_at-r-requires c = (c.requires.form.whole, (spot (goal.at.rows_below_at-r-requires c).After-entry_to-p).inside, omega arith, (spot (goal.at.rows_below_at-r-requires c).After-entry_to-p).ranges)
+rows_below_at-r-requires c = (c.requires.form.whole, (spot (goal.at.rows_below_at-r-requires c).After-entry_to-p).inside, omega arith, (spot (goal.at.rows_below_at-r-requires c).After-entry_to-p).fits)
 
 pub returns : goal.returns
 returns c =

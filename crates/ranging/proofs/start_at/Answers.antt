@@ -24,7 +24,7 @@ returns-then-not-well_formed c =
     let c5 = c4 in
     c.refused-then-not-well_formed.ensures
     ∙ sym (start-unwell _ _ c5.if-pages-ne16384.false (sym c4.all_formed.ensures ∙ c.if-not-all_formed.false)
-    (sym c.well-formed-2.ensures ∙ c.if-not-well_formed.true))
+    (sym c.well_formed-2.ensures ∙ c.if-not-well_formed.true))
 
 -- the pages are a well-formed tree
 sound : (c : Else-not-well_formed) → Sound c.args.pages.now
@@ -32,7 +32,7 @@ sound c =
     let c4 = c in
     record {
       form = record { whole = c4.if-pages-ne16384.false; forms = sym c.all_formed.ensures ∙ c.if-not-all_formed.false };
-      well = sym c.well-formed-2.ensures ∙ not-false _ c.if-not-well_formed.false;
+      well = sym c.well_formed-2.ensures ∙ c.if-not-well_formed.false;
     }
 
 pub seek-at-requires : goal.seek-at-requires

@@ -12,7 +12,11 @@ pub append_at-requires : goal.append_at-requires
 append_at-requires c =
     let e = c in
     let t = e.can_bring_in in
-    (search rules, (in-open _ _ _ _ t.result t.ensures (ap not e.if-not-can_bring_in.false), (search rules, in-room _ _ _ _ t.result t.ensures (ap not e.if-not-can_bring_in.false))))
+    record {
+      w_len = search rules;
+      w_value = in-open _ _ _ _ t.result t.ensures (ap not e.if-not-can_bring_in.false);
+      rs_len = (search rules, in-room _ _ _ _ t.result t.ensures (ap not e.if-not-can_bring_in.false));
+    }
 
 pub returns : goal.returns
 returns c = search in-done

@@ -19,7 +19,10 @@ redirect_at-requires c =
     let i = c.entry_at-i in
     let e = c in
     let t = e.can_modify in
-    (search rules, (modify-base _ _ _ _ _ t.result t.ensures (ap not e.if-not-can_modify.false), modify-inside _ _ _ _ _ t.result t.ensures (ap not e.if-not-can_modify.false) _ i.ensures))
+    record {
+      w_len = search rules;
+      w_value = (modify-base _ _ _ _ _ t.result t.ensures (ap not e.if-not-can_modify.false), modify-inside _ _ _ _ _ t.result t.ensures (ap not e.if-not-can_modify.false) _ i.ensures);
+    }
 
 pub returns-then-new-ne0 : goal.returns-then-new-ne0
 returns-then-new-ne0 c = search modify-point
@@ -28,15 +31,15 @@ pub remove_at-requires : goal.remove_at-requires
 remove_at-requires c =
     let i = c.entry_at-i in
     let e = c in
-    let t = e.can_modify in (
-      search rules,
-      (
+    let t = e.can_modify in record {
+      w_len = search rules;
+      w_value = (
         modify-base _ _ _ _ _ t.result t.ensures (ap not e.if-not-can_modify.false),
         modify-inside _ _ _ _ _ t.result t.ensures (ap not e.if-not-can_modify.false) _
             i.ensures,
         modify-others _ _ _ _ _ t.result t.ensures (ap not e.if-not-can_modify.false) c.if-new-ne0.false,
-      ),
-    )
+      );
+    }
 
 pub returns : goal.returns
 returns c = search modify-remove

@@ -52,7 +52,7 @@ same_images-requires c =
     let a = c in
     let u = a.requires.1 in
     let p = record-given a.args.log.now a.args.w a.args.work.now a.args.x u a.requires.2 in
-    ((a.requires.0, p.0, p.1), (c.if-x-w.false, images-there a.args.log.now a.args.w u))
+    record { work_len = (a.requires.0, p.0, p.1); k_le_count = (c.if-x-w.false, images-there a.args.log.now a.args.w u) }
 
 pub returns : goal.returns
 returns c =

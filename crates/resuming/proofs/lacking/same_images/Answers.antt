@@ -32,7 +32,7 @@ pub returns-then-not-same_image : goal.returns-then-not-same_image
 returns-then-not-same_image c =
     let t = c in
     let a = c in
-    let small : a.args.n.0 < 4294967296 = omega (arith, a.well-formed.1.1.1.0) in
+    let small : a.args.n.0 < 4294967296 = omega (arith, a.well_formed.1.1.1.0) in
     images-stopped a.args.work.now a.args.r.now a.args.x a.requires.work_len.2 a.args.n.0 small a.args.m.now a.args.k a.requires.k_le_count.0
     _ _ t.loop-i.invariant.2 t.loop-i-test.true _ c.draft_at-d.ensures _ c.same_image.ensures (ap not c.if-not-same_image.true)
 
@@ -44,7 +44,7 @@ pub loop-i-preserved : goal.loop-i-preserved
 loop-i-preserved c =
     let t = c in
     let a = c in
-    let small : a.args.n.0 < 4294967296 = omega (arith, a.well-formed.1.1.1.0) in (
+    let small : a.args.n.0 < 4294967296 = omega (arith, a.well_formed.1.1.1.0) in (
       omega arith,
       omega (arith, t.loop-i.invariant.1),
       images-turned a.args.work.now a.args.r.now a.args.x a.requires.work_len.2 a.args.n.0 small a.args.m.now a.args.k a.requires.k_le_count.0

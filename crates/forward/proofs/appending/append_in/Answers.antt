@@ -49,15 +49,15 @@ can_bring_in-requires c =
     let a = k in
     let s = unit-open (goal.at.can_bring_in-requires c).After-slice_known-2-1 in
     let some-rows = in_some a.args.work.now s a.args.org.0 a.args.dest.0 a.args.back a.requires.3 _ _ n.source_rows-k.ensures
-    n.source_at-first.ensures in (
-      (a.requires.0, omega (arith, (placed (goal.at.can_bring_in-requires c).After-slice_known-2-1).1)),
-      (
+    n.source_at-first.ensures in record {
+      w_len = (a.requires.0, omega (arith, (placed (goal.at.can_bring_in-requires c).After-slice_known-2-1).1));
+      le_k = (
         some-rows.0,
         some-rows.1,
         in-long a.args.work.now s a.args.org.0 a.args.dest.0 a.args.back a.requires.3 _ _ n.source_rows-k.ensures n.source_at-first.ensures,
         in_order_lem a.args.work.now s a.args.org.0 a.args.dest.0 a.args.back a.requires.3 _ _ n.source_rows-k.ensures n.source_at-first.ensures,
-      ),
-    )
+      );
+    }
 
 pub returns-then-not-can_bring_in : goal.returns-then-not-can_bring_in
 returns-then-not-can_bring_in c =
@@ -93,15 +93,15 @@ bring_in-requires c =
     let a = k in
     let s = unit-open (goal.at.bring_in-requires c).After-slice_known-2-1 in
     let some-rows = in_some a.args.work.now s a.args.org.0 a.args.dest.0 a.args.back a.requires.3 _ _ n.source_rows-k.ensures
-    n.source_at-first.ensures in (
-      (a.requires.0, omega (arith, (placed (goal.at.bring_in-requires c).After-slice_known-2-1).1)),
-      (
+    n.source_at-first.ensures in record {
+      w_len = (a.requires.0, omega (arith, (placed (goal.at.bring_in-requires c).After-slice_known-2-1).1));
+      le_k = (
         some-rows.0,
         some-rows.1,
         in-long a.args.work.now s a.args.org.0 a.args.dest.0 a.args.back a.requires.3 _ _ n.source_rows-k.ensures n.source_at-first.ensures,
         in_order_lem a.args.work.now s a.args.org.0 a.args.dest.0 a.args.back a.requires.3 _ _ n.source_rows-k.ensures n.source_at-first.ensures,
-      ),
-    )
+      );
+    }
 
 pub put_in-requires : goal.put_in-requires
 put_in-requires c =

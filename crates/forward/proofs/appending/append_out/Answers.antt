@@ -76,11 +76,11 @@ pub put_out-requires : goal.put_out-requires
 put_out-requires c =
     let n = c in
     let k = n in
-    let a = k in (
-      ((counted (goal.at.put_out-requires c).After-count_at-k).0, omega arith, omega (arith, (counted (goal.at.put_out-requires c).After-count_at-k).1, a.requires.1)),
-      length-lent (256 * a.args.org.0 + 16) _ a.args.work.now
-          (omega (arith, (counted (goal.at.put_out-requires c).After-count_at-k).0, (placed (goal.at.put_out-requires c).After-slice_known-2-1).1, a.requires.0)),
-    )
+    let a = k in record {
+      k_bound = ((counted (goal.at.put_out-requires c).After-count_at-k).0, omega arith, omega (arith, (counted (goal.at.put_out-requires c).After-count_at-k).1, a.requires.1));
+      rs_len = length-lent (256 * a.args.org.0 + 16) _ a.args.work.now
+          (omega (arith, (counted (goal.at.put_out-requires c).After-count_at-k).0, (placed (goal.at.put_out-requires c).After-slice_known-2-1).1, a.requires.0));
+    }
 
 pub take_all-requires : goal.take_all-requires
 take_all-requires c =

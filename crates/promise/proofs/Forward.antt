@@ -9,7 +9,6 @@ use mathlib.Core.Option.{Option, some, none}
 use mathlib.Core.Option as Option
 use lib.ListN.{length, length-append}
 use borrow.Author.Tests.{leb-true, le-leb}
-use Rattle.field.specs.Test.{bind}
 use Rattle.field.specs.Bytes.{Bytes, most4}
 use Rattle.field.proofs.Test.{both-1, both-2, pick_true, pick-false, need-true, given-some, bind-some, bind-intro, Bound, when-some}
 use Rattle.logs.specs.Record.{Check, saves, Rec, LE, sizes}

@@ -1,6 +1,6 @@
 -- Rows 1 to 10 of document 01's "Numbers to try", computed from the calls' own definitions. What is expected is written out here, page by
 -- page and record by record in bytes, and not by the definitions' makers; whole pages and whole logs are compared. Assumes nothing.
-use Rattle.std.specs.Prelude.{ℕ, zero, suc, ◌+◌, ◌-◌, Bool, true, false, List, [], ◌∷◌, ◌++◌, length, eqb}
+use Rattle.std.specs.Prelude.{ℕ, zero, suc, ◌-◌, Bool, true, false, List, [], ◌∷◌, ◌++◌, length, eqb}
 use Rattle.field.specs.Test.{both, all, given}
 use Rattle.field.specs.Bytes.{zeroes, same}
 use Rattle.logs.specs.Log.{read_log, at_end}

@@ -15,7 +15,6 @@ use Rattle.page.specs.Each.{Each}
 use Rattle.page.proofs.Region.{base-pointing}
 use Rattle.page.proofs.Pages.{get_or-pages}
 use Rattle.tree.specs.Tree.{under, root_entries, below, base_entries, headed}
-use Rattle.tree.specs.Tree as T
 use Rattle.tidy.specs.Tidy.{Sound}
 use Rattle.tidy.proofs.Model.{Entry, Ascends, full, marks, trail, beneath, Heads, first, entry_key}
 use Rattle.tidy.proofs.Entries.{ent, ents, ascend-keys}

@@ -10,7 +10,7 @@ use mathlib.Core.Option.{some}
 use lib.Dec.{eqb}
 use lib.ListN.{length}
 use Rattle.field.specs.Bytes.{Bytes}
-use Rattle.page.specs.Page.{base, leaf, entries, records, formed}
+use Rattle.page.specs.Page.{entries, records, formed}
 use Rattle.page.specs.Pages.{page, put_page}
 use Rattle.page.specs.Places.{Leafy, Basic}
 use Rattle.logs.specs.Record.{Rec, outs, size}

@@ -29,7 +29,7 @@ use Rattle.logs.specs.Record.{out, length_of, Rec, LO, LI, LM, LE, kind_of, carr
 use Rattle.logs.specs.Plan.{Step, take_out, bring_in, point}
 use Rattle.logs.specs.Log.{taken}
 use Rattle.logs.specs.Valid.{Moved}
-use Rattle.unit.specs.Next.{targets, change, target_of, page_of, skipped, lowest_to, next_rec, step_size, room}
+use Rattle.unit.specs.Next.{targets, change, target_of, page_of, skipped, lowest_to, next_rec, step_size}
 use Rattle.unit.proofs.Pagewise.{applies}
 use Rattle.page.proofs.Region.{empty-formed, leaf-formed, base-formed}
 use Rattle.tidy.proofs.Model.{Entry, Ascends, full, upd, redirect, strip, lowest, state}

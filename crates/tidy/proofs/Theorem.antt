@@ -32,7 +32,7 @@ use Rattle.tidy.proofs.Move.{move}
 use Rattle.tidy.proofs.Swap.{swap}
 use Rattle.tidy.proofs.Gather.{pages_of}
 use Rattle.tidy.proofs.Compact.{compact, compact-new}
-use Rattle.tidy.proofs.Pages.{leaf_of, base_of, root_of}
+use Rattle.tidy.proofs.Pages.{leaf_of, root_of}
 use Rattle.tidy.proofs.Below.{full-leaf}
 use Rattle.tidy.proofs.Formed.{state_of}
 use Rattle.tidy.proofs.Leaves.{leaves_all, Spot, spot, length-leaves, standing-all, Standing, stands, leaves_of_lem}

@@ -1,6 +1,5 @@
 -- `answering::list` meets its contract: a law for each of its answers. Assumes nothing.
 use mathlib.Core.Path.{sym, ◌∙◌}
-use borrow.Author.Tests.{not-false}
 use Rattle.tree.specs.Walk.{InForm}
 use Rattle.answering.proofs.Lists.{list-work!, list-log!, list-form!, list-busy!, list-pages!, list-tree!, list-all! }
 use borrow.Author.Rules.{rules}

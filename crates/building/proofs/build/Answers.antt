@@ -1,11 +1,9 @@
 -- `building::build` meets its contract: a law for each of its answers. Assumes nothing.
 use Prim.Native.Nat.{◌≤◌}
-use mathlib.Core.Path.{◌≡◌, sym, ◌∙◌}
-use borrow.Author.Tests.{not-false}
+use mathlib.Core.Path.{sym, ◌∙◌}
 use Rattle.tree.proofs.Laid.{buildable}
 use Rattle.building.proofs.Builds.{build-no-work!, build-no-store!, build-no-log!, build-no-range!, build-no-order!, build-no-leaves!, build-no-bases! }
 use Rattle.building.proofs.Builds.{Passed, build-all, range-facts, store-copied}
-use borrow.Author.Rules.{rules}
 use Rattle.building.proofs.build.Goals as goal
 use Rattle.building.proofs.build.Goals.{Else-base_count-gt-BASE_PAGES, Else-not-in_range}
 

@@ -1,8 +1,6 @@
 -- `checkpointing::checkpoint` meets its contract: a law for each of its answers. Assumes nothing.
 use mathlib.Core.Path.{sym, ◌∙◌}
-use borrow.Author.Tests.{not-true, not-false}
 use Rattle.checkpointing.proofs.Replaces.{checkpoint-work, checkpoint-store, checkpoint-log, checkpoint-form, checkpoint-busy, checkpoint-other, checkpoint-most, checkpoint-all}
-use borrow.Author.Rules.{rules}
 use Rattle.checkpointing.proofs.checkpoint.Goals as goal
 
 pub returns-then-work-ne16384 : goal.returns-then-work-ne16384

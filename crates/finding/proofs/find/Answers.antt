@@ -1,8 +1,6 @@
 -- `finding::find` meets its contract: a law for each of its answers. Assumes nothing.
 use mathlib.Core.Path.{sym, ◌∙◌}
-use borrow.Author.Tests.{not-true, not-false}
 use Rattle.store.proofs.Passed.{find-work!, find-log!, find-form!, find-busy!, find-found! }
-use borrow.Author.Rules.{rules}
 use Rattle.finding.proofs.find.Goals as goal
 
 pub returns-then-work-ne16384 : goal.returns-then-work-ne16384

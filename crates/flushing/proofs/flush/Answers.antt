@@ -1,8 +1,6 @@
 -- `flushing::flush` meets its contract: a law for each of its answers. Assumes nothing.
 use mathlib.Core.Path.{sym, ◌∙◌}
-use borrow.Author.Tests.{not-true, not-false}
 use Rattle.flushing.proofs.Flushes.{flush-work, flush-store, flush-log, flush-form, flush-past, flush-early, flush-all}
-use borrow.Author.Rules.{rules}
 use Rattle.flushing.proofs.flush.Goals as goal
 
 pub returns-then-work-ne16384 : goal.returns-then-work-ne16384

@@ -1,8 +1,6 @@
 -- `forcing::force` meets its contract: a law for each of its answers. Assumes nothing.
 use mathlib.Core.Path.{sym, ◌∙◌}
-use borrow.Author.Tests.{not-true, not-false}
 use Rattle.store.proofs.Replies.{force-long, force-form, force-all}
-use borrow.Author.Rules.{rules}
 use Rattle.forcing.proofs.force.Goals as goal
 
 pub returns-then-log-ne8192 : goal.returns-then-log-ne8192

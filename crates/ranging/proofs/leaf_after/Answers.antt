@@ -1,9 +1,7 @@
 -- `ranging::leaf_after` meets its contract: a law for each of its answers. Assumes nothing.
 use native.Mathlib.Omega.{arith}
 use mathlib.Core.Path.{sym, ◌∙◌}
-use borrow.Author.Tests.{not-true, not-false}
 use Rattle.ranging.proofs.Tested.{row-facts, after-here, after-end, after-bare, after-top}
-use borrow.Author.Rules.{rules}
 use Rattle.ranging.proofs.leaf_after.Goals as goal
 
 pub first_below-requires : goal.first_below-requires

@@ -5,7 +5,6 @@ use mathlib.Core.Path.{sym, ◌∙◌}
 use Rattle.tree.specs.Walk.{Spot, Over}
 use Rattle.tree.proofs.Onward.{root-fits}
 use Rattle.ranging.proofs.Descend.{top-few, seek-none, top-over, base-some, base-few, base-spot, seek-at}
-use borrow.Author.Rules.{rules}
 use Rattle.ranging.proofs.seek.Goals as goal
 use Rattle.ranging.proofs.seek.Goals.{After-entry_to-b, After-entry_to-p, After-rows_below_at-i, Else-o-eq0}
 

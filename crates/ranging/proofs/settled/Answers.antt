@@ -1,7 +1,6 @@
 -- `ranging::settled` meets its contract. Assumes nothing.
 use mathlib.Core.Path.{sym, ◌∙◌}
 use Rattle.ranging.proofs.Tested.{settled_here, settled_on}
-use borrow.Author.Rules.{rules}
 use Rattle.ranging.proofs.settled.Goals as goal
 
 pub returns-then-has_row : goal.returns-then-has_row

@@ -1,10 +1,8 @@
 -- `ranging::start_at` meets its contract: a law for each of its answers. Assumes nothing.
 use mathlib.Core.Path.{ap, sym, ◌∙◌}
-use borrow.Author.Tests.{not-true, not-false}
 use Rattle.tree.specs.Reader.{Sound}
 use Rattle.ranging.specs.Reading.{reached}
 use Rattle.ranging.proofs.Tested.{start-unsized, start-broken, start-unwell, start-well}
-use borrow.Author.Rules.{rules}
 use Rattle.ranging.proofs.start_at.Goals as goal
 use Rattle.ranging.proofs.start_at.Goals.{Else-not-well_formed}
 

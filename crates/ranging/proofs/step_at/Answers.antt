@@ -1,9 +1,7 @@
 -- `ranging::step_at` meets its contract: a law for each of its answers. Assumes nothing.
 use native.Mathlib.Omega.{arith}
 use mathlib.Core.Path.{refl, sym, ◌∙◌}
-use borrow.Author.Tests.{not-true, not-false}
 use Rattle.ranging.proofs.Tested.{Rowed, row-facts, record-fits, next-unsized, next-end, next-bare, next-read}
-use borrow.Author.Rules.{rules}
 use Rattle.ranging.proofs.step_at.Goals as goal
 use Rattle.ranging.proofs.step_at.Goals.{After-struct_known-2-1}
 

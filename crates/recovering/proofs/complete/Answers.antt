@@ -1,6 +1,5 @@
 -- `recovering::complete` meets its contract: a law for each of its answers. Assumes nothing.
 use mathlib.Core.Path.{sym, ◌∙◌}
-use borrow.Author.Tests.{not-true, not-false}
 use Rattle.recovering.proofs.Recovers.{found_inside, complete-stops, complete-unwell, complete-accepts}
 use borrow.Author.Rules.{rules}
 use Rattle.recovering.proofs.complete.Goals as goal

@@ -1,9 +1,7 @@
 -- `recovering::finish` meets its contract. The invariant: finishing all is finishing what is still to come. Assumes nothing.
-use Prim.Native.Nat.{◌-◌}
 use native.Mathlib.Omega.{arith}
-use borrow.Author.Rules.{rules}
 use Rattle.field.specs.Bytes.{Bytes}
-use Rattle.recovering.proofs.Finishing.{Going, going_start, going_end, going-opened, going-stops, going-past, going_more, going_less}
+use Rattle.recovering.proofs.Finishing.{going_start, going_end, going-opened, going-stops, going-past, going_more, going_less}
 use Rattle.recovering.proofs.finish.Goals as goal
 
 pub loop-w-init : goal.loop-w-init

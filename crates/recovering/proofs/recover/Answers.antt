@@ -2,7 +2,6 @@
 use mathlib.Core.Bool.{not}
 use native.Mathlib.Omega.{arith}
 use mathlib.Core.Path.{sym, ◌∙◌, ap}
-use borrow.Author.Tests.{not-false}
 use Rattle.field.specs.Bytes.{Bytes}
 use Rattle.recovering.proofs.Recovers.{recover-no-work!, recover-no-store!, recover-no-log!, recover-broken!, recover-form!, recover-ahead! }
 use Rattle.recovering.proofs.Recovers.{Tested, recover-reads!, recover-stuck!, recover-found, recover-goes}
@@ -33,41 +32,41 @@ bytes c i = omega (arith, c.slice_known-2-1.given i)
 
 pub returns-then-work-ne16384 : goal.returns-then-work-ne16384
 returns-then-work-ne16384 c = record {
-      recovered = search recover-no-work!;
-    }
+  recovered = search recover-no-work!;
+}
 
 pub returns-then-store-ne16384 : goal.returns-then-store-ne16384
 returns-then-store-ne16384 c = record {
-      recovered = search recover-no-store!;
-    }
+  recovered = search recover-no-store!;
+}
 
 pub returns-then-log-ne8192 : goal.returns-then-log-ne8192
 returns-then-log-ne8192 c = record {
-      recovered = search recover-no-log!;
-    }
+  recovered = search recover-no-log!;
+}
 
 pub returns-then-not-w : goal.returns-then-not-w
 returns-then-not-w c = record {
-      recovered = search recover-broken!;
-    }
+  recovered = search recover-broken!;
+}
 
 pub returns-then-not-all_formed : goal.returns-then-not-all_formed
 returns-then-not-all_formed c = record {
-      recovered = search recover-form!;
-    }
+  recovered = search recover-form!;
+}
 
 pub returns-then-not-none_newer : goal.returns-then-not-none_newer
 returns-then-not-none_newer c = record {
-      recovered = search recover-ahead!;
-    }
+  recovered = search recover-ahead!;
+}
 
 pub repeat_log-requires : goal.repeat_log-requires
 repeat_log-requires c = (search rules, search recover-reads!)
 
 pub returns-then-not-repeat_log : goal.returns-then-not-repeat_log
 returns-then-not-repeat_log c = record {
-      recovered = search (recover-stuck!, tested (goal.at.returns-then-not-repeat_log c).Else-not-none_newer);
-    }
+  recovered = search (recover-stuck!, tested (goal.at.returns-then-not-repeat_log c).Else-not-none_newer);
+}
 
 pub complete-requires : goal.complete-requires
 complete-requires c =
@@ -79,13 +78,13 @@ complete-requires c =
 
 pub returns : goal.returns
 returns c = record {
-      recovered =
-    let c4 = c in
-    let c7 = c4 in
-    let c10 = c7 in
-    let c15 = c10 in
-    let t = c in
-    let a = t in
-    let left_there = c4.complete.ensures a.args.work.now a.args.store.now in
-    recover-goes _ _ _ _ _ _ (tested (goal.at.returns c).Else-not-none_newer) _ c15.copy.ensures _ _ c10.repeat_log.ensures (ap not c7.if-not-repeat_log.false) _ left_there;
-    }
+  recovered =
+      let c4 = c in
+      let c7 = c4 in
+      let c10 = c7 in
+      let c15 = c10 in
+      let t = c in
+      let a = t in
+      let left_there = c4.complete.ensures a.args.work.now a.args.store.now in
+      recover-goes _ _ _ _ _ _ (tested (goal.at.returns c).Else-not-none_newer) _ c15.copy.ensures _ _ c10.repeat_log.ensures (ap not c7.if-not-repeat_log.false) _ left_there;
+}

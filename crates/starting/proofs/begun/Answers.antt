@@ -6,7 +6,6 @@ use Rattle.unit.proofs.Rooms.{plan-few}
 use Rattle.starting.specs.Begins.{record_of}
 use Rattle.starting.proofs.Units.{room_most}
 use Rattle.starting.proofs.Starts.{lb-long, unit-room, unit-number, unit-last, unit-begun}
-use borrow.Author.Rules.{rules}
 use Rattle.starting.proofs.begun.Goals as goal
 
 pub overflow_add-end : goal.overflow_add-end

@@ -3,7 +3,6 @@ use native.Mathlib.Omega.{arith}
 use mathlib.Core.Path.{refl, sym, ◌∙◌}
 use Rattle.logs.proofs.Held.{saves-of}
 use Rattle.starting.proofs.Units.{read_back, plan-some}
-use borrow.Author.Rules.{rules}
 use Rattle.starting.proofs.needed.Goals as goal
 
 pub remaining-requires : goal.remaining-requires

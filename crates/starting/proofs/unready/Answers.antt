@@ -1,8 +1,6 @@
 -- `starting::unready` meets its contract: a test each. Assumes nothing.
 use mathlib.Core.Path.{sym, ◌∙◌}
-use borrow.Author.Tests.{not-false}
 use Rattle.starting.proofs.Starts.{unready-open!, unready-pages!, unready-tree!, unready-none! }
-use borrow.Author.Rules.{rules}
 use Rattle.starting.proofs.unready.Goals as goal
 
 pub returns-then-opened : goal.returns-then-opened

@@ -6,7 +6,6 @@ use borrow.Author.Rules.{part_to_end}
 use Rattle.forward.proofs.Stands.{Ends, ends, Stands, stands, begin-room, begin-ok, step-read}
 use Rattle.forward.proofs.Carries.{ends-room}
 use Rattle.stepping.proofs.Steps.{formed-save!, next-target, formed-step}
-use borrow.Author.Rules.{rules}
 use Rattle.stepping.proofs.next_formed.Goals as goal
 use Rattle.stepping.proofs.next_formed.Goals.{After-shared_slice_known-2-1, Else-saves}
 

@@ -6,7 +6,6 @@ use borrow.Author.Tests.{not-true, not-false}
 use Rattle.logs.proofs.Toward.{turned-ok}
 use Rattle.stepping.proofs.Steps.{step-no-work, step-no-log, step-no-form, step-no-unit, Past, past-opened, past-ends}
 use Rattle.stepping.proofs.Steps.{step-no-page, Stepped, went_on, end_is, step-stops, step-steps}
-use borrow.Author.Rules.{rules}
 use Rattle.stepping.proofs.step.Goals as goal
 use Rattle.stepping.proofs.step.Goals.{Else-not-w, Else-reply-ne0}
 
@@ -40,54 +39,54 @@ made c =
 
 pub returns-then-work-ne16384 : goal.returns-then-work-ne16384
 returns-then-work-ne16384 c = record {
-      stepped = step-no-work _ _ _ _ _ _ _ c.kept.ensures c.if-work-ne16384.true;
-    }
+  stepped = step-no-work _ _ _ _ _ _ _ c.kept.ensures c.if-work-ne16384.true;
+}
 
 pub returns-then-log-ne8192 : goal.returns-then-log-ne8192
 returns-then-log-ne8192 c = record {
-      stepped = step-no-log _ _ _ _ _ _ _ c.kept-then-log-ne8192.ensures c.if-work-ne16384.false c.if-log-ne8192.true;
-    }
+  stepped = step-no-log _ _ _ _ _ _ _ c.kept-then-log-ne8192.ensures c.if-work-ne16384.false c.if-log-ne8192.true;
+}
 
 pub returns-then-not-knows : goal.returns-then-not-knows
 returns-then-not-knows c = record {
-      stepped =
-    let k = c in
-    let e = k in
-    step-no-form _ _ _ _ _ _ _ c.kept-then-not-knows.ensures e.if-work-ne16384.false e.if-log-ne8192.false _ k.scan_log-s.ensures
-    (sym k.knows.ensures ∙ c.if-not-knows.true);
-    }
+  stepped =
+      let k = c in
+      let e = k in
+      step-no-form _ _ _ _ _ _ _ c.kept-then-not-knows.ensures e.if-work-ne16384.false e.if-log-ne8192.false _ k.scan_log-s.ensures
+      (sym k.knows.ensures ∙ c.if-not-knows.true);
+}
 
 pub returns-then-not-w : goal.returns-then-not-w
 returns-then-not-w c = record {
-      stepped =
-    let h = c in
-    let k = h in
-    let e = k in
-    step-no-unit _ _ _ _ _ _ _ c.kept-then-not-w.ensures e.if-work-ne16384.false e.if-log-ne8192.false _ k.scan_log-s.ensures
-    (sym k.knows.ensures ∙ h.if-not-knows.false) (not-true _ c.if-not-w.true);
-    }
+  stepped =
+      let h = c in
+      let k = h in
+      let e = k in
+      step-no-unit _ _ _ _ _ _ _ c.kept-then-not-w.ensures e.if-work-ne16384.false e.if-log-ne8192.false _ k.scan_log-s.ensures
+      (sym k.knows.ensures ∙ h.if-not-knows.false) (not-true _ c.if-not-w.true);
+}
 
 pub next_formed-requires : goal.next_formed-requires
 next_formed-requires c = let p = past (goal.at.next_formed-requires c).Else-not-w in (p.whole, past-opened p)
 
 pub returns-then-not-next_formed : goal.returns-then-not-next_formed
 returns-then-not-next_formed c = record {
-      stepped =
-    let f = c in
-    step-no-page (past (goal.at.returns-then-not-next_formed c).Else-not-w) _ f.next_formed.ensures (ap not c.if-not-next_formed.true) _ _ _ c.kept-then-not-next_formed.ensures;
-    }
+  stepped =
+      let f = c in
+      step-no-page (past (goal.at.returns-then-not-next_formed c).Else-not-w) _ f.next_formed.ensures (ap not c.if-not-next_formed.true) _ _ _ c.kept-then-not-next_formed.ensures;
+}
 
 pub append-reply-requires : goal.append-reply-requires
 append-reply-requires c = let p = past (goal.at.append-reply-requires c).Else-not-w in (p.whole, p.long, past-opened p)
 
 pub returns-then-reply-ne0 : goal.returns-then-reply-ne0
 returns-then-reply-ne0 c = record {
-      stepped =
-    let a = c in
-    let e = a in
-    let f = e in
-    step-stops (past (goal.at.returns-then-reply-ne0 c).Else-not-w) _ f.next_formed.ensures (ap not e.if-not-next_formed.false) _ _ _ a.append-reply.ensures c.if-reply-ne0.true _ _ _ c.kept-then-reply-ne0.ensures;
-    }
+  stepped =
+      let a = c in
+      let e = a in
+      let f = e in
+      step-stops (past (goal.at.returns-then-reply-ne0 c).Else-not-w) _ f.next_formed.ensures (ap not e.if-not-next_formed.false) _ _ _ a.append-reply.ensures c.if-reply-ne0.true _ _ _ c.kept-then-reply-ne0.ensures;
+}
 
 pub past-after-requires : goal.past-after-requires
 past-after-requires c = let m = made (goal.at.past-after-requires c).Else-reply-ne0 in (m.ready, turned-ok _ _ m.state m.shows)
@@ -97,9 +96,9 @@ overflow_cast-result c = record { fits = omega (arith, end_is (made (goal.at.ove
 
 pub returns : goal.returns
 returns c = record {
-      stepped =
-    let m = c in
-    let e = m in
-    let f = e in
-    step-steps (past (goal.at.returns c).Else-not-w) _ f.next_formed.ensures (ap not e.if-not-next_formed.false) _ _ (made (goal.at.returns c).Else-reply-ne0) _ c.past-after.ensures;
-    }
+  stepped =
+      let m = c in
+      let e = m in
+      let f = e in
+      step-steps (past (goal.at.returns c).Else-not-w) _ f.next_formed.ensures (ap not e.if-not-next_formed.false) _ _ (made (goal.at.returns c).Else-reply-ne0) _ c.past-after.ensures;
+}

@@ -1,6 +1,5 @@
 -- `stepping::target_formed` meets its contract. Assumes nothing.
 use Rattle.stepping.proofs.Steps.{target-out!, target-in!, target-point!, target-close!, out-small, in_small, base-small}
-use borrow.Author.Rules.{rules}
 use Rattle.stepping.proofs.target_formed.Goals as goal
 
 pub formed_at-requires : goal.formed_at-requires

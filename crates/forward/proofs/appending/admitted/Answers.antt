@@ -4,7 +4,6 @@ use lib.ListN.{length-drop}
 use borrow.Author.Rules.{part_to_end}
 use Rattle.forward.proofs.Stands.{Stands, stands, number-few, at-inside, begin-room, begin-ok, done-less}
 use Rattle.forward.proofs.Appends.{admit-full, admit-last, admit-ok}
-use borrow.Author.Rules.{rules}
 use Rattle.forward.proofs.appending.admitted.Goals as goal
 use Rattle.forward.proofs.appending.admitted.Goals.{After-shared_slice_known-2-1}
 

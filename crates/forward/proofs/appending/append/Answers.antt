@@ -5,7 +5,6 @@ use lib.ListN.{length-drop}
 use borrow.Author.Rules.{part_to_end}
 use Rattle.forward.proofs.Stands.{Ends, ends}
 use Rattle.forward.proofs.Carries.{ends-room, ends-unfinished, save-goes}
-use borrow.Author.Rules.{rules}
 use Rattle.forward.proofs.appending.append.Goals as goal
 use Rattle.forward.proofs.appending.append.Goals.{After-slice_known-2-1}
 

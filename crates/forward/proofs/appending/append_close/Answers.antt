@@ -3,7 +3,6 @@ use native.Mathlib.Omega.{arith}
 use mathlib.Core.Path.{sym, ◌∙◌}
 use Rattle.forward.proofs.Stands.{Stands, stands}
 use Rattle.forward.proofs.Appends.{tested-ok, close-stopped, close-goes, close-room}
-use borrow.Author.Rules.{rules}
 use Rattle.forward.proofs.appending.append_close.Goals as goal
 use Rattle.forward.proofs.appending.append_close.Goals.{After-slice_known-2-1}
 

@@ -6,7 +6,6 @@ use mathlib.Core.Path.{sym, ◌∙◌, ap}
 use Rattle.page.specs.Places.{Leafy}
 use Rattle.forward.proofs.Stands.{Stands, stands, begin-room, step_keeps}
 use Rattle.forward.proofs.Appends.{tested-ok, in_some, in-inside, in-long, in_order_lem, in-refused, in-stopped, in-goes, in-room}
-use borrow.Author.Rules.{rules}
 use Rattle.forward.proofs.appending.append_in.Goals as goal
 use Rattle.forward.proofs.appending.append_in.Goals.{After-slice_known-2-1, After-source_at-first}
 

@@ -8,7 +8,6 @@ use Rattle.page.specs.Pages.{page}
 use Rattle.page.specs.Places.{Leafy}
 use Rattle.forward.proofs.Stands.{Stands, stands, step_keeps}
 use Rattle.forward.proofs.Appends.{tested-ok, length-lent, out-leaf, out-refused, out-stopped, out-few, out-room, out-goes}
-use borrow.Author.Rules.{rules}
 use Rattle.forward.proofs.appending.append_out.Goals as goal
 use Rattle.forward.proofs.appending.append_out.Goals.{After-count_at-k, After-slice_known-2-1, Else-not-is_leaf}
 

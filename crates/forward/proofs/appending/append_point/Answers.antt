@@ -9,7 +9,6 @@ use Rattle.logs.specs.Plan.{point}
 use Rattle.unit.proofs.Places.{StepKeeps}
 use Rattle.forward.proofs.Stands.{Stands, stands, step_keeps}
 use Rattle.forward.proofs.Appends.{tested-ok, point-base, point-refused, point-missing, point-stuck, point-stopped, point-goes, point-room}
-use borrow.Author.Rules.{rules}
 use Rattle.forward.proofs.appending.append_point.Goals as goal
 use Rattle.forward.proofs.appending.append_point.Goals.{After-slice_known-2-1, Else-not-is_base}
 

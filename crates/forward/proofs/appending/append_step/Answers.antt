@@ -3,7 +3,6 @@ use native.Mathlib.Omega.{arith}
 use lib.ListN.{length-drop}
 use borrow.Author.Rules.{part_to_end}
 use Rattle.forward.proofs.Stands.{Stands, stands, begin-room, begin-ok, next-out, next-in, next-point, next-close}
-use borrow.Author.Rules.{rules}
 use Rattle.forward.proofs.appending.append_step.Goals as goal
 use Rattle.forward.proofs.appending.append_step.Goals.{After-slice_known-2-1}
 

@@ -3,7 +3,6 @@ use native.Mathlib.Omega.{arith}
 use Rattle.logs.specs.Record.{length_of}
 use Rattle.resuming.proofs.Agrees.{images-there}
 use Rattle.resuming.proofs.Carries.{images-filed, images-laid, end-put}
-use borrow.Author.Rules.{rules}
 use Rattle.resuming.proofs.carrying.append_end.Goals as goal
 
 pub overflow_add-from : goal.overflow_add-from

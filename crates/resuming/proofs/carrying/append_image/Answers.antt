@@ -2,7 +2,6 @@
 use native.Mathlib.Omega.{arith}
 use Rattle.logs.specs.Record.{length_of}
 use Rattle.resuming.proofs.Carries.{image-written}
-use borrow.Author.Rules.{rules}
 use Rattle.resuming.proofs.carrying.append_image.Goals as goal
 
 pub overflow_add-at : goal.overflow_add-at

@@ -5,7 +5,6 @@ use Rattle.logs.specs.Record.{length_of}
 use Rattle.resuming.specs.Lacking.{first_number, last_number}
 use Rattle.resuming.proofs.Agrees.{draft-ready! }
 use Rattle.resuming.proofs.Carries.{tested-room, carry-refused, done-few, carry-stopped, carry-end, carry-image}
-use borrow.Author.Rules.{rules}
 use Rattle.resuming.proofs.carrying.append_saved.Goals as goal
 
 pub returns-then-x-ne0 : goal.returns-then-x-ne0

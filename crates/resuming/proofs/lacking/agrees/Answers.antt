@@ -2,7 +2,6 @@
 use native.Mathlib.Omega.{arith}
 use Rattle.logs.specs.Record.{length_of}
 use Rattle.resuming.proofs.Agrees.{agree-none, agree-few, agree-high, agree-all, record-given, images-there}
-use borrow.Author.Rules.{rules}
 use Rattle.resuming.proofs.lacking.agrees.Goals as goal
 
 pub returns-then-w-eq0 : goal.returns-then-w-eq0

@@ -5,7 +5,6 @@ use mathlib.Core.Path.{sym, ◌∙◌, ap}
 use Rattle.logs.specs.Record.{length_of}
 use Rattle.resuming.proofs.Agrees.{record-long}
 use Rattle.resuming.proofs.Finds.{found-unready, found-refuses, found-lists, found-other, found-same}
-use borrow.Author.Rules.{rules}
 use Rattle.resuming.proofs.lacking.lacked.Goals as goal
 
 pub refused-requires : goal.refused-requires

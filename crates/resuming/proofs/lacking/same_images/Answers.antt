@@ -1,14 +1,12 @@
 -- `resuming::lacking::same_images` meets its contract. The invariant: the images logged begin as the pages listed where those that are left do. Assumes nothing.
 use mathlib.Core.Bool.{not}
-use Prim.Native.Nat.{◌-◌, ◌*◌, ◌≤◌, ◌<◌}
+use Prim.Native.Nat.{◌<◌}
 use native.Mathlib.Omega.{arith}
-use mathlib.Core.Path.{◌≡◌, ap}
+use mathlib.Core.Path.{ap}
 use mathlib.Core.List.{map}
-use lib.ListN.{drop}
 use Rattle.page.specs.Pages.{pages}
 use Rattle.logs.specs.Record.{length_of}
-use Rattle.logs.specs.Scan.{images_in}
-use Rattle.saving.specs.Rest.{image_of, begins}
+use Rattle.saving.specs.Rest.{image_of}
 use Rattle.resuming.specs.Lacking.{drafted}
 use Rattle.resuming.proofs.Agrees.{images-start, images-end, images-stopped, images-turned, draft-ready!, image-there! }
 use borrow.Author.Rules.{rules}

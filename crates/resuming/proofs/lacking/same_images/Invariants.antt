@@ -1,16 +1,12 @@
 -- `resuming::lacking::same_images` meets its contract. The invariant: the images logged begin as the pages listed where those that are left do. Assumes nothing.
-use Prim.Native.Nat.{◌-◌, ◌*◌, ◌≤◌, ◌<◌}
-use native.Mathlib.Omega.{arith}
+use Prim.Native.Nat.{◌-◌, ◌*◌, ◌≤◌}
 use mathlib.Core.Path.{◌≡◌}
 use mathlib.Core.List.{map}
 use lib.ListN.{drop}
 use Rattle.page.specs.Pages.{pages}
-use Rattle.logs.specs.Record.{length_of}
 use Rattle.logs.specs.Scan.{images_in}
 use Rattle.saving.specs.Rest.{image_of, begins}
 use Rattle.resuming.specs.Lacking.{drafted}
-use Rattle.resuming.proofs.Agrees.{images-start, images-end, images-stopped, images-turned, draft-ready!, image-there! }
-use borrow.Author.Rules.{rules}
 use Rattle.resuming.proofs.lacking.same_images.Given as goal
 
 abbrev pub invariant-loop-i : goal.invariant-loop-i

@@ -1,7 +1,6 @@
 -- `resuming::working::needed` meets its contract. Assumes nothing.
 use mathlib.Core.Path.{sym, ◌∙◌}
 use Rattle.resuming.proofs.Stages.{needs-none, needs-of}
-use borrow.Author.Rules.{rules}
 use Rattle.resuming.proofs.working.needed.Goals as goal
 
 pub returns-then-reply-ne0 : goal.returns-then-reply-ne0

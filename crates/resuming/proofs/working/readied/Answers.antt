@@ -1,8 +1,6 @@
 -- `resuming::working::readied` meets its contract. Assumes nothing.
 use mathlib.Core.Path.{sym, ◌∙◌}
-use borrow.Author.Tests.{not-false}
 use Rattle.resuming.proofs.Stages.{unformed!, unwell!, ready! }
-use borrow.Author.Rules.{rules}
 use Rattle.resuming.proofs.working.readied.Goals as goal
 
 pub returns-then-not-all_formed : goal.returns-then-not-all_formed

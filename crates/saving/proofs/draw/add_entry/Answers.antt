@@ -5,7 +5,6 @@ use native.Mathlib.Omega.{arith}
 use mathlib.Core.Path.{◌≡◌, ◌∙◌}
 use lib.ListN.{length, set, length-set}
 use Rattle.saving.proofs.Image.{entry-put}
-use borrow.Author.Rules.{rules}
 use Rattle.saving.proofs.draw.add_entry.Goals as goal
 
 -- the mark keeps the length

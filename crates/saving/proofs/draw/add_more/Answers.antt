@@ -3,7 +3,6 @@ use Prim.Native.Nat.{◌+◌, ◌≤◌}
 use native.Mathlib.Omega.{arith}
 use lib.ListN.{length}
 use Rattle.saving.proofs.Image.{no-row!, record-row!, entry-row!, record-long, entry-long, none-many, record-many, entry-many}
-use borrow.Author.Rules.{rules}
 use Rattle.saving.proofs.draw.add_more.Goals as goal
 
 pub copy-requires : goal.copy-requires

@@ -2,7 +2,6 @@
 use Prim.Native.Nat.{◌+◌, ◌*◌, ◌≤◌}
 use native.Mathlib.Omega.{arith}
 use Rattle.saving.proofs.Image.{new-fits, back_fits, few-rows, all-drawn}
-use borrow.Author.Rules.{rules}
 use Rattle.saving.proofs.draw.draw.Goals as goal
 use Rattle.saving.proofs.draw.draw.Goals.{After-add_more-m}
 

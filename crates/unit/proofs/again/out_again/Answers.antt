@@ -1,6 +1,5 @@
 -- `unit::again::out_again` meets its contract. Assumes nothing.
 use Rattle.unit.proofs.Redone.{out-redone}
-use borrow.Author.Rules.{rules}
 use Rattle.unit.proofs.again.out_again.Goals as goal
 
 pub returns : goal.returns

@@ -1,6 +1,5 @@
 -- `unit::again::point_again` meets its contract. Assumes nothing.
 use Rattle.unit.proofs.Redone.{point-redone}
-use borrow.Author.Rules.{rules}
 use Rattle.unit.proofs.again.point_again.Goals as goal
 
 pub returns : goal.returns

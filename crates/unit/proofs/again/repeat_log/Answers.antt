@@ -1,12 +1,9 @@
 -- `unit::again::repeat_log` meets its contract. The invariant: repeating all is repeating what is still to come. Assumes nothing.
 use mathlib.Core.Bool.{not}
-use Prim.Native.Nat.{◌-◌}
 use native.Mathlib.Omega.{arith}
 use mathlib.Core.Path.{sym, ◌∙◌, ap}
-use lib.ListN.{length}
-use borrow.Author.Rules.{rules}
 use Rattle.field.specs.Bytes.{Bytes}
-use Rattle.unit.proofs.Rerun.{Going, going_start, going_end, going-ahead, going-past, going-stops, going_more, going_less}
+use Rattle.unit.proofs.Rerun.{going_start, going_end, going-ahead, going-past, going-stops, going_more, going_less}
 use Rattle.unit.proofs.again.repeat_log.Goals as goal
 
 pub loop-w-init : goal.loop-w-init

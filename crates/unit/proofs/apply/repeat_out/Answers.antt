@@ -1,6 +1,5 @@
 -- `unit::apply::repeat_out` meets its contract. Assumes nothing.
 use Rattle.unit.proofs.Repeats.{did-old, did-new, out-target}
-use borrow.Author.Rules.{rules}
 use Rattle.unit.proofs.apply.repeat_out.Goals as goal
 
 pub returns-then-stamped : goal.returns-then-stamped

@@ -1,5 +1,5 @@
 -- `unit::compact::listing` meets its contract. Assumes nothing.
-use Prim.Native.Nat.{◌≤◌, ◌+◌, ◌-◌}
+use Prim.Native.Nat.{◌≤◌, ◌-◌}
 use mathlib.Core.Path.{◌≡◌, refl}
 use lib.ListN.{drop}
 use mathlib.Core.List.{◌++◌}

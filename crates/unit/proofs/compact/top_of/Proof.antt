@@ -1,5 +1,5 @@
 -- `unit::compact::top_of` meets its contract. Assumes nothing.
-use Prim.Native.Nat.{◌≤◌, ◌+◌, ◌-◌, ◌*◌}
+use Prim.Native.Nat.{◌≤◌, ◌+◌, ◌*◌}
 use mathlib.Core.Path.{◌≡◌, refl}
 use lib.ListN.{length, drop}
 use Rattle.page.specs.Page.{rows_of}

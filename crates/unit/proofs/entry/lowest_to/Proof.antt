@@ -2,7 +2,7 @@
 use Rattle.field.specs.Test.{when}
 use Rattle.unit.specs.Next.{lowest_to}
 use Rattle.unit.proofs.Entries.{lowest-end!, lowest-stop!, lowest-more! }
-use Prim.Native.Nat.{◌≤◌, ◌+◌, ◌-◌, ◌*◌}
+use Prim.Native.Nat.{◌≤◌, ◌+◌, ◌*◌}
 use mathlib.Core.Path.{◌≡◌, refl}
 use lib.ListN.{length, drop}
 use Rattle.page.specs.Page.{rows_of}

@@ -2,7 +2,6 @@
 use Prim.Native.Nat.{◌<◌}
 use native.Mathlib.Omega.{arith}
 use Rattle.unit.proofs.Rooms.{each-out, out-fits, out-size}
-use borrow.Author.Rules.{rules}
 use Rattle.unit.proofs.room.out_size.Goals as goal
 
 pub overflow_sub-each : goal.overflow_sub-each

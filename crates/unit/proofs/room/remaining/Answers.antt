@@ -1,11 +1,10 @@
 -- `unit::room::remaining` meets its contract. Assumes nothing.
 use native.Mathlib.Omega.{arith}
-use Prim.Native.Nat.{◌≤◌, ◌<◌, ◌+◌, ◌-◌, ◌*◌}
-use mathlib.Core.Path.{◌≡◌, sym, ◌∙◌}
-use lib.ListN.{length, drop, length-drop}
+use Prim.Native.Nat.{◌<◌, ◌+◌}
+use mathlib.Core.Path.{sym, ◌∙◌}
+use lib.ListN.{length, length-drop}
 use Rattle.logs.specs.Plan.{plan}
 use Rattle.logs.specs.Log.{read_begin}
-use Rattle.unit.specs.Next.{room}
 use Rattle.unit.proofs.Rooms.{plan-few, step-inside, step-more, step-last, room_next, room-last}
 use Rattle.unit.proofs.room.remaining.Goals as goal
 use Rattle.unit.proofs.room.remaining.Goals.{At-loop-unit, Else-closes}

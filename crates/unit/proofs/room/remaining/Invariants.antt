@@ -1,12 +1,10 @@
 -- `unit::room::remaining` meets its contract. Assumes nothing.
-use native.Mathlib.Omega.{arith}
 use Prim.Native.Nat.{◌≤◌, ◌<◌, ◌+◌, ◌-◌, ◌*◌}
-use mathlib.Core.Path.{◌≡◌, sym, ◌∙◌}
-use lib.ListN.{length, drop, length-drop}
+use mathlib.Core.Path.{◌≡◌}
+use lib.ListN.{length, drop}
 use Rattle.logs.specs.Plan.{plan}
 use Rattle.logs.specs.Log.{read_begin}
 use Rattle.unit.specs.Next.{room}
-use Rattle.unit.proofs.Rooms.{plan-few, step-inside, step-more, step-last, room_next, room-last}
 use Rattle.unit.proofs.room.remaining.Given as goal
 
 abbrev pub invariant-loop-unit : goal.invariant-loop-unit

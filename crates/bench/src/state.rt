@@ -18,7 +18,7 @@ pub struct Lengths {
     pub log: usize,
 }
 
-#[derive(Drop)]
+#[derive(Clone, Copy)]
 pub struct State {
     pub numbers: Numbers,
     pub lent: Lengths,

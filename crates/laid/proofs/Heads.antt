@@ -116,6 +116,8 @@ pub heads-zero : (a b lo : ℕ) (to : ℕ → ℕ) (i : ℕ) (es : List (List �
     → Heads a b to 0 i (from_zero es) gs
 unfolding from_zero
 heads-zero a b lo to i [] [] none h = none
+heads-zero a b lo to i [] (g ∷ gs) x h = elim x [ ]
+heads-zero a b lo to i (e ∷ es) [] x h = elim x [ ]
 heads-zero a b lo to i (e ∷ es) (g ∷ gs) (head {key = key} {hi = hi} x low held rest) h =
     let zeroed : Held a b 0 hi g =
     record {

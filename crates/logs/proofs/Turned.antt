@@ -112,7 +112,7 @@ shown-begun s g op u =
     let n : ℕ = length g.saved in
     let e : s.at + (44 + 16 * n) - (44 + 16 * n + 0) ≡ s.at = omega arith in
     let f : s.at + (44 + 16 * n) - (44 + 16 * n) ≡ s.at = omega arith in
-    rw (op, u, e, f)
+    rw (u, e, f)
 
 -- LK after a unit has ended
 ended-there : (t : Bool) (k : ℕ) (lk : Option ℕ) → there (pick t (some k) lk) ≡ pick t true (there lk)

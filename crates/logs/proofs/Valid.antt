@@ -69,7 +69,7 @@ valid-narrow (cons f v) = Every.cons (follows-narrow f.follows) (valid-narrow v)
 pub valid-take : {s : State} {rs : List Rec} (m : ℕ) → Valid s rs → Valid s (take m rs)
 valid-take zero v = nil
 valid-take (suc m) nil = nil
-valid-take (suc m) (cons f v) = cons f (valid-take m v)
+valid-take {s = s} (suc m) (cons {r = r} {rs = rs} f v) = cons f (valid-take {s = after s r} m v)
 
 -- a chain, then one from where it led
 pub valid-append : {s : State} {a : List Rec} (b : List Rec) → Valid s a → Valid (after_all s a) b → Valid s (a ++ b)

@@ -64,7 +64,7 @@ logged last (step {n = n} {did = did} {x = x} {w = w} {r = r} f next a z q sd do
 logged (more works end) (step {n = n} {did = did} {x = x} {xs = xs} {w = w} {v = v} {r = r} f next a z q sd c) s o e v' d t m few b =
     let does : Does o.did x r = rw d (next-does x did (page_of (target_of x) w) r (target-bytes (target_of x) w b) next) in
     let open_next : opened_by r s.opened ≡ some (going r o) = ap (opened_by r) e ∙ still_open o works does in
-    let rest = logged end c (after s r) (going r o) open_next v' (ap (λ (l : List Rec). r ∷ l) d) (ap (drop 1) t) (ap (λ (k : ℕ). k + 1) m) (omega arith) sd.bytes in
+    let rest = logged {n = n + 1} end c (after s r) (going r o) open_next v' (ap (λ (l : List Rec). r ∷ l) d) (ap (drop 1) t) (ap (λ (k : ℕ). k + 1) m) (omega arith) sd.bytes in
     record { valid = cons (fits s o x xs r e v' t does (omega arith)) rest.valid; shut = rest.shut }
 
 -- a whole unit, from its begin record on

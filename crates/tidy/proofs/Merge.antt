@@ -2,7 +2,7 @@
 -- Assumes nothing.
 use Prim.Native.Nat.{ℕ, ◌+◌, ◌*◌, ◌≤◌}
 use native.Mathlib.Omega.{arith}
-use mathlib.Core.Path.{◌≡◌, refl, sym, ◌∙◌}
+use mathlib.Core.Path.{◌≡◌, refl, sym, ◌∙◌, subst}
 use mathlib.Core.Logic.{◌≢◌, ⊎_elim}
 use mathlib.Core.Bool.{cond}
 use mathlib.Core.List.{List, [], ◌∷◌, ◌++◌, append_assoc, map-append}
@@ -88,7 +88,7 @@ module _ {Item : Type 0} (key : Item → ℕ) (f : ℕ → List Item) (pre : Lis
             (drop-one 0 (trail key f pre ++ (2 * x.key ∷ marks key (f x.page))) (2 * y.key) _
             (rw (trail-append key f pre (x ∷ y ∷ post), ← append_assoc (trail key f pre) (2 * x.key ∷ marks key (f x.page))) at w.ascends));
         pointed = λ p. pointers-append p pre (x ∷ post)
-            ∙ ⊎_elim (λ e. rw e at_a) (λ d. ⊎_elim (λ e. rw e (at_b (λ k. d (e ∙ k)))) (other p d) (eq? p y.page)) (eq? p x.page);
+            ∙ ⊎_elim (λ e. subst Pointed (sym e) at_a) (λ d. ⊎_elim (λ e. subst Pointed (sym e) (at_b (λ k. d (e ∙ k)))) (other p d) (eq? p y.page)) (eq? p x.page);
       }
 
   -- what is below stays

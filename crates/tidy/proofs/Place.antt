@@ -27,6 +27,7 @@ mem-mid (x ∷ xs) e ys = there (mem-mid xs e ys)
 
 -- in the first of two lists
 mem-left : (e : Entry) (xs ys : List Entry) → Mem e xs → Mem e (xs ++ ys)
+mem-left e [] ys m = elim m [ ]
 mem-left e (x ∷ xs) ys here = here
 mem-left e (x ∷ xs) ys (there m) = there (mem-left e xs ys m)
 
@@ -129,6 +130,7 @@ module _ (leaf : ℕ → List (List ℕ)) where
 
   -- no key is below the least
   above : (lo : ℕ) (es : List Entry) → Ascends lo (trail key_of leaf es) → (e : Entry) → Mem e es → lo ≤ 2 * e.key
+  above lo [] a e m = elim m [ ]
   above lo (f ∷ es) a e here = a.0
   above lo (f ∷ es) a e (there m) = omega (arith, a.0, above (suc (2 * f.key)) es (rest lo f es a) e m)
 

@@ -10,4 +10,4 @@ pub returns : goal.returns
 returns c =
     let a = c in
     let x = c.redirect in
-    cc (lent-page a.args.p.0 a.args.w.now, back-kept a.args.p.0 a.args.w.now x.new.0 a.requires.w_len.0 a.requires.w_len.1 x.auto.0)
+    cc (lent-page a.args.p.0 a.args.w.now, back-kept a.args.p.0 a.args.w.now x.new.pg a.requires.w_len.0 a.requires.w_len.1 x.auto.pg)

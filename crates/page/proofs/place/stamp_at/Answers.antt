@@ -7,4 +7,4 @@ pub returns : goal.returns
 returns c =
     let a = c in
     let x = c.stamp in
-    cc (lent-page a.args.p.0 a.args.w.now, back-kept a.args.p.0 a.args.w.now x.new.0 a.requires.0 a.requires.1 x.auto.0)
+    cc (lent-page a.args.p.0 a.args.w.now, back-kept a.args.p.0 a.args.w.now x.new.pg a.requires.0 a.requires.1 x.auto.pg)

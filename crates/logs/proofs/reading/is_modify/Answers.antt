@@ -1,0 +1,28 @@
+-- `logs::reading::is_modify` meets its contract. Assumes nothing.
+use Prim.Native.Nat.{◌-◌, ◌≤◌}
+use native.Mathlib.Omega.{arith}
+use lib.ListN.{length}
+use mathlib.Core.Path.{◌∙◌}
+use Rattle.logs.specs.Record.{length_of}
+use Rattle.logs.specs.Table.{kinds, kind_at}
+use Rattle.logs.proofs.Stand.{modify-short, modify-rest! }
+use borrow.Author.Rules.{rules}
+use Rattle.logs.proofs.reading.is_modify.Goals as goal
+
+pub returns-then-l-at : goal.returns-then-l-at
+returns-then-l-at c = let a = c in modify-short _ _ _ _ a.args.l.now a.args.at _ c.size_of-long.ensures c.if-l-at.true
+
+pub get4-key-requires : goal.get4-key-requires
+unfolding length_of kind_at kinds
+get4-key-requires c = omega arith
+
+pub same_at-requires : goal.same_at-requires
+unfolding length_of kind_at kinds
+same_at-requires c = omega arith
+
+pub returns : goal.returns
+returns c =
+    let room = c in
+    let a = room.args in
+    let k : a.n.0 ≤ 4294967295 = omega arith in
+    search (modify-rest! a.n.0 a.base.0 a.old.0 a.new.0 a.l.now a.at _ room.size_of-long.ensures k room.if-l-at.false)

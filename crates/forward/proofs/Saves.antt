@@ -8,7 +8,7 @@ use mathlib.Core.Option.{Option, some}
 use borrow.Author.Tests.{leb-true}
 use lib.ListN.{length, length-append, length-map}
 use Rattle.field.specs.Bytes.{Bytes, put, most4}
-use Rattle.logs.specs.Record.{saves, Image, Rec, LG, LE, size, sizes, encode}
+use Rattle.logs.specs.Record.{saves, Image, Rec, LB, LO, LI, LM, LG, LE, size, sizes, encode}
 use Rattle.logs.specs.Log.{Open, State, images_of, after, Log, read_log, at_end}
 use Rattle.logs.specs.Valid.{Follows, logs, Fits}
 use Rattle.logs.proofs.Sound.{Imaged, no-image, an-image, Keeps, Waits, waits-save, sound-at_end}
@@ -67,6 +67,11 @@ by-rest (lacks (r ∷ rs)) f s w l s' w' l' e = record { added = r; others = rs;
 pub length_more : (is : List Image) (did : List Rec) → Imaged did → length (images_of did is) ≡ length did + length is
 unfolding images_of
 length_more is [] no-image = omega arith
+length_more is (LB g ∷ did) p = elim p [ ]
+length_more is (LO org dest rs ∷ did) p = elim p [ ]
+length_more is (LI org dest back rs ∷ did) p = elim p [ ]
+length_more is (LM base old new key ∷ did) p = elim p [ ]
+length_more is (LE unit images ∷ did) p = elim p [ ]
 length_more is (LG i ∷ did) (an-image p) = omega (arith, length_more (i ∷ is) did p)
 
 -- the pages that an open put or delete changes

@@ -23,7 +23,7 @@ use Rattle.logs.specs.Steps.{step_of}
 use Rattle.logs.specs.declared.scan.Walk.{Walk}
 use Rattle.logs.specs.declared.steps.Planned.{Planned}
 use Rattle.logs.specs.declared.steps.Planned.TheVariants.{Out, In, Point, Close}
-use Rattle.logs.specs.Valid.{Does, does-point}
+use Rattle.logs.specs.Valid.{Does, does-point, does-out, does-in, does-close}
 use Rattle.logs.proofs.Sound.{Done, Awaits}
 use Rattle.logs.proofs.Read.{read_log-facts}
 use Rattle.logs.proofs.Held.{awaits, saves-of}
@@ -286,6 +286,9 @@ head_at (suc n) (x ∷ p) d y ys e = head_at n p d y ys e
 
 did-point : {did : List Rec} {x : Step} {r : Rec} (rest : List Rec) → Does did x r → Points x → Before (r ∷ rest)
 unfolding key_before key_in
+did-point rest (does-out _) p = elim p [ ]
+did-point rest (does-in _) p = elim p [ ]
+did-point rest does-close p = elim p [ ]
 did-point rest (does-point {key = key} h) points = record { key = key; is = refl; in-numbers = refl }
 
 -- by the steps done, the latest first

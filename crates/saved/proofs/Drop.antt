@@ -40,7 +40,7 @@ use Rattle.saved.proofs.Take.{only}
 
 module _ (w : List ℕ) (tidy : Tidy w) (key n : ℕ) (small : n ≤ most4) (g : Way w key)
     (none_left : without_key key (records (page (to_page g.x) w)) ≡ []) (no-left : g.b1 ≡ []) (no-right : g.b2 ≡ []) where
-  open g use {r1, e, r2, b1, x, b2, root_is, in-root, root-rows, root-to, basic, leafy, top-is, tree, is, low, over_Root, old}
+  open g use {r1, e, r2, b1, x, b2, root_is, in-root, root-rows, root-to, basic, leafy, top-is, tree, is, low, over_root, old}
 
   abbrev b : ℕ
   b = to_page e
@@ -84,11 +84,11 @@ module _ (w : List ℕ) (tidy : Tidy w) (key n : ℕ) (small : n ≤ most4) (g :
     fewer = upd (base_of w) b []
 
     the-tree : Tree top (state bare fewer)
-    the-tree = base-tree (leaf_of w) (base_of w) (ents r1) (ent e) (ents r2) tree key over_Root (ent x) here low gone starts
+    the-tree = base-tree (leaf_of w) (base_of w) (ents r1) (ent e) (ents r2) tree key over_root (ent x) here low gone starts
 
     the-contents : contents top (state bare fewer) ≡ new
     the-contents =
-        base-contents (leaf_of w) (base_of w) (ents r1) (ent e) (ents r2) tree key over_Root (ent x) here low gone ∙ ap (without_key key) (sym old)
+        base-contents (leaf_of w) (base_of w) (ents r1) (ent e) (ents r2) tree key over_root (ent x) here low gone ∙ ap (without_key key) (sym old)
 
     root-ents : ents (r1 ++ r2) ≡ top
     root-ents = map-append ent r1 r2
@@ -136,7 +136,7 @@ module _ (w : List ℕ) (tidy : Tidy w) (key n : ℕ) (small : n ≤ most4) (g :
     old-two = rw (none_before, one-behind) at old
 
     over-f : key < key_of f
-    over-f = rw one-behind at over_Root
+    over-f = rw one-behind at over_root
 
     c-ents : base_of w c ≡ ents (entries (page c w))
     c-ents = base-at w c f-to.0.0 f-to.0.1

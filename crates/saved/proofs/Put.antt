@@ -44,7 +44,7 @@ use Rattle.saved.proofs.First.{put_first_lem}
 
 module _ (w : List ℕ) (tidy : Tidy w) (r : List ℕ) (row : RowOf leaf r) (n : ℕ) (small : n ≤ most4) (g : Way w (key_of r)) where
   open g use {r1, e, r2, b1, x, b2, base-parts, base-is, leaf-is, base-rows, leaf-rows, base-to, basic, leafy, top-is, tree, is, leaf-recs}
-  open g use {low, over-base, over_Root, old}
+  open g use {low, over-base, over_root, old}
 
   abbrev b : ℕ
   b = to_page e
@@ -85,12 +85,12 @@ module _ (w : List ℕ) (tidy : Tidy w) (r : List ℕ) (row : RowOf leaf r) (n :
   room-tree : Tree top (state grown (base_of w))
   room-tree =
       rw leaf-recs at
-      (put-tree (leaf_of w) (base_of w) (ents r1) (ent e) (ents r2) tree (ents b1) (ent x) (ents b2) is r low over-base over_Root)
+      (put-tree (leaf_of w) (base_of w) (ents r1) (ent e) (ents r2) tree (ents b1) (ent x) (ents b2) is r low over-base over_root)
 
   room-contents : contents top (state grown (base_of w)) ≡ new
   room-contents =
       (rw leaf-recs at
-      (put-contents (leaf_of w) (base_of w) (ents r1) (ent e) (ents r2) tree (ents b1) (ent x) (ents b2) is r low over-base over_Root))
+      (put-contents (leaf_of w) (base_of w) (ents r1) (ent e) (ents r2) tree (ents b1) (ent x) (ents b2) is r low over-base over_root))
       ∙ ap (with_record r) (sym old)
 
   room-holds : length rs ≤ leaf.most → Holds leaf rs
@@ -160,14 +160,14 @@ module _ (w : List ℕ) (tidy : Tidy w) (r : List ℕ) (row : RowOf leaf r) (n :
     the-tree =
         subst (λ (h : List (List ℕ)). Tree top (state (upd (upd (leaf_of w) q h) p lows) split-base)) (sym high_is)
         (rw wider-ents
-        (split-tree (leaf_of w) (base_of w) (ents r1) (ent e) (ents r2) tree (ents b1) (ent x) (ents b2) is r low over-base over_Root q free.none
+        (split-tree (leaf_of w) (base_of w) (ents r1) (ent e) (ents r2) tree (ents b1) (ent x) (ents b2) is r low over-base over_root q free.none
         (take 8 rs) y (drop 9 rs) two some-low))
 
     the-contents : contents top (state split-leaf split-base) ≡ new
     the-contents =
         subst (λ (h : List (List ℕ)). contents top (state (upd (upd (leaf_of w) q h) p lows) split-base) ≡ new) (sym high_is)
         (rw wider-ents
-        (split-contents (leaf_of w) (base_of w) (ents r1) (ent e) (ents r2) tree (ents b1) (ent x) (ents b2) is r low over-base over_Root q
+        (split-contents (leaf_of w) (base_of w) (ents r1) (ent e) (ents r2) tree (ents b1) (ent x) (ents b2) is r low over-base over_root q
         free.none (take 8 rs) y (drop 9 rs) two some-low)
         ∙ ap (with_record r) (sym old))
 

@@ -2,7 +2,7 @@
 -- own; a page is emptied, its entry's range joining the one before it or the one behind it. Assumes nothing.
 use Prim.Native.Nat.{ℕ, suc, ◌+◌, ◌*◌, ◌≤◌}
 use native.Mathlib.Omega.{arith}
-use mathlib.Core.Path.{◌≡◌, refl, sym, ap, ◌∙◌, fun_ext}
+use mathlib.Core.Path.{◌≡◌, refl, sym, ap, ◌∙◌, fun_ext, subst}
 use mathlib.Core.Logic.{◌≢◌, ⊎_elim}
 use mathlib.Core.Bool.{cond}
 use mathlib.Core.List.{List, [], ◌∷◌, ◌++◌, append_assoc, map-append}
@@ -188,7 +188,7 @@ module _ {Item : Type 0} (key : Item → ℕ) (f : ℕ → List Item) (pre : Lis
     split-pointed p =
         pointers-append p pre (x ∷ z ∷ post)
         ∙ ⊎_elim
-        (λ (e : p ≡ q). rw e
+        (λ (e : p ≡ q). subst (λ (n : ℕ). pointers n pre + pointers n (x ∷ z ∷ post) ≡ full (h n)) (sym e)
         (let t : pointers q pre + (cond (eqb x.page q) 1 0 + (cond (eqb q q) 1 0 + pointers q post)) ≡ 1 =
         rw (eq-eqb q q refl, ne_eqb x.page q (λ k. apart (sym k))) (omega (arith, none_free)) in
         t ∙ sym (ap full at-q)))

@@ -204,10 +204,10 @@ module _ (leaf : ℕ → List (List ℕ)) (base : ℕ → List Entry) (e d : Ent
   pointed-low : (p : ℕ) → pointers p top ≡ full (base' p)
   pointed-low p =
       ⊎_elim
-      (λ (c : p ≡ d.page). rw c
+      (λ (c : p ≡ d.page). subst (λ (n : ℕ). pointers n top ≡ full (base' n)) (sym c)
       (let u : cond (eqb d.page d.page) 1 0 + pointers d.page r2 ≡ 1 = rw (hit d) (omega (arith, next-none)) in u ∙ sym (ap full at-d)))
       (λ (n : p ≢ d.page). ⊎_elim
-      (λ (c : p ≡ e.page). rw c (counted ∙ sym (ap full at-e)))
+      (λ (c : p ≡ e.page). subst (λ (n : ℕ). pointers n top ≡ full (base' n)) (sym c) (counted ∙ sym (ap full at-e)))
       (λ (m : p ≢ e.page).
       let u : cond (eqb e.page p) 1 0 + (cond (eqb d.page p) 1 0 + pointers p r2) ≡ full (base p) = t.upper.pointed p in
       let v = rw (ne_eqb e.page p (λ c. m (sym c))) at u in

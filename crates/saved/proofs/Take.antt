@@ -33,7 +33,7 @@ use Rattle.saved.proofs.Saves.{saves-rising, saves-order}
 
 module _ (w : List ℕ) (tidy : Tidy w) (key n : ℕ) (small : n ≤ most4) (g : Way w key) where
   open g use {r1, e, r2, b1, x, b2, base-is, leaf-is, in-base, base-rows, leaf-rows, base-to, basic, leafy, top-is, tree, is, leaf-recs}
-  open g use {low, over-base, over_Root, old}
+  open g use {low, over-base, over_root, old}
 
   abbrev b : ℕ
   b = to_page e
@@ -66,12 +66,12 @@ module _ (w : List ℕ) (tidy : Tidy w) (key n : ℕ) (small : n ≤ most4) (g :
     thin-tree : Tree top (state thinner (base_of w))
     thin-tree =
         rw leaf-recs at
-        (kept-tree (leaf_of w) (base_of w) (ents r1) (ent e) (ents r2) tree key over_Root (ents b1) (ent x) (ents b2) is low over-base still)
+        (kept-tree (leaf_of w) (base_of w) (ents r1) (ent e) (ents r2) tree key over_root (ents b1) (ent x) (ents b2) is low over-base still)
 
     thin-contents : contents top (state thinner (base_of w)) ≡ new
     thin-contents =
         (rw leaf-recs at
-        (kept-contents (leaf_of w) (base_of w) (ents r1) (ent e) (ents r2) tree key over_Root (ents b1) (ent x) (ents b2) is low over-base))
+        (kept-contents (leaf_of w) (base_of w) (ents r1) (ent e) (ents r2) tree key over_root (ents b1) (ent x) (ents b2) is low over-base))
         ∙ ap (without_key key) (sym old)
 
     thin-holds : Holds leaf left
@@ -130,8 +130,8 @@ module _ (w : List ℕ) (tidy : Tidy w) (key n : ℕ) (small : n ≤ most4) (g :
         let m : ents (b1 ++ b2) ≡ ents b1 ++ ents b2 = map-append ent b1 b2 in
         let l : length (b1 ++ b2) ≡ length b1 + length b2 = length-append b1 b2 in
         take-empty (b1 ++ b2) (each_append q.0 q.2) (each_append t.0 t.2) (omega arith) (omega (arith, most-entries))
-        (rw m (left-tree (leaf_of w) (base_of w) (ents r1) (ent e) (ents r2) tree key over_Root (ents b1) (ent x) (ents b2) is low over-base only f))
-        (rw m (left-contents (leaf_of w) (base_of w) (ents r1) (ent e) (ents r2) tree key over_Root (ents b1) (ent x) (ents b2) is low over-base only)
+        (rw m (left-tree (leaf_of w) (base_of w) (ents r1) (ent e) (ents r2) tree key over_root (ents b1) (ent x) (ents b2) is low over-base only f))
+        (rw m (left-contents (leaf_of w) (base_of w) (ents r1) (ent e) (ents r2) tree key over_root (ents b1) (ent x) (ents b2) is low over-base only)
         ∙ ap (without_key key) (sym old))
 
     -- none stands before it, one behind it
@@ -152,6 +152,6 @@ module _ (w : List ℕ) (tidy : Tidy w) (key n : ℕ) (small : n ≤ most4) (g :
         let l : length b2 ≡ suc (length bs) = ap length d in
         take-empty (entry (key_of x) (to_page y) ∷ bs) (Each.cons (row-entry (key_of x) (to_page y) ks ps) qs.2)
         (Each.cons {r = entry (key_of x) (to_page y)} (rw (to-entry (key_of x) (to_page y) ps) to-y) ts.2) (omega arith) (omega (arith, most-entries))
-        (rw m (right-tree (leaf_of w) (base_of w) (ents r1) (ent e) (ents r2) tree key over_Root (ent x) (ent y) (ents bs) here low over only))
-        (rw m (right-contents (leaf_of w) (base_of w) (ents r1) (ent e) (ents r2) tree key over_Root (ent x) (ent y) (ents bs) here low over only)
+        (rw m (right-tree (leaf_of w) (base_of w) (ents r1) (ent e) (ents r2) tree key over_root (ent x) (ent y) (ents bs) here low over only))
+        (rw m (right-contents (leaf_of w) (base_of w) (ents r1) (ent e) (ents r2) tree key over_root (ent x) (ent y) (ents bs) here low over only)
         ∙ ap (without_key key) (sym old))

@@ -1,6 +1,6 @@
 // The lent calls with the numbers by value: each call lends the numbers that it is handed to its namesake in `uhtlight` and answers with what came
-// back. Code that lends a record is proved by hand; it stands here, once, so that the service bench calls these as it would call `store`, and
-// through them the very calls that users link. Each contract is that of the same call in `store`.
+// back. The lending stands here, once, so that the service bench calls these as it would call `store`, and through them the very calls that
+// `uhtlight_c` makes for C. Each contract is that of the same call in `store`.
 #![tactic(auto)]
 
 ghost use Rattle.std.specs.Prelude.{◌≡◌, [], ◌∷◌};

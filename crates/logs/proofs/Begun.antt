@@ -10,7 +10,7 @@ use lib.Dec.{eqb, leb}
 use borrow.Author.Tests.{eq-eqb, ne_eqb, le-leb, lt-leb, not-true, not-false}
 use Rattle.field.specs.Test.{both, all, pick}
 use Rattle.field.specs.Bytes.{part, put, zeroes, all_zero, starts, Bytes, le2, bytes2, bytes4, most4}
-use Rattle.field.proofs.Test.{pick_true, both_true, both_false, both_end}
+use Rattle.field.proofs.Test.{both_true, both_false, both_end}
 use Rattle.field.proofs.Number.{bytes2-le2, length-bytes2}
 use Rattle.field.proofs.Part.{split, part-drop, length_part}
 use Rattle.field.proofs.Byte.{bytes_drop}

@@ -1,25 +1,25 @@
 -- The whole pass: from the check record, a turn for each record, then zeros to the end. Assumes nothing.
-use Prim.Native.Nat.{ℕ, zero, suc, ◌+◌, ◌-◌, ◌*◌, ◌≤◌, ◌<◌}
-use native.Mathlib.Nat.{not-suc-le-zero, add-zero}
+use Prim.Native.Nat.{ℕ, suc, ◌+◌, ◌-◌, ◌≤◌, ◌<◌}
+use native.Mathlib.Nat.{add-zero}
 use native.Mathlib.Omega.{arith}
 use mathlib.Core.Path.{◌≡◌, refl, sym, ap, ◌∙◌, subst}
 use mathlib.Core.Bool.{Bool, true, false, not, false≢true}
-use mathlib.Core.List.{List, [], ◌∷◌, ◌++◌}
+use mathlib.Core.List.{List, [], ◌∷◌}
 use mathlib.Core.Option.{Option, some, none}
-use lib.ListN.{length, take, drop, get_or, length-drop, get_or-eq_default}
+use lib.ListN.{length, take, drop, get_or, get_or-eq_default}
 use lib.Seq.{drop-drop, get_or-drop}
-use lib.Dec.{eqb, leb}
-use borrow.Author.Tests.{eq-eqb, ne_eqb, eqb-true, eqb-false, not-true, not-false}
+use lib.Dec.{eqb}
+use borrow.Author.Tests.{eq-eqb, eqb-false, not-true, not-false}
 use borrow.Author.Rules.{part_to_end}
-use Rattle.field.specs.Test.{both, all, pick, given, when, bind, there}
-use Rattle.field.specs.Bytes.{put, all_zero, starts, Bytes, le4, most4}
+use Rattle.field.specs.Test.{pick, given, when, bind, there}
+use Rattle.field.specs.Bytes.{put, all_zero, starts, Bytes, le4}
 use Rattle.field.proofs.Test.{pick_true, pick-false, both-1, both-2, both_true, both_false}
 use Rattle.field.proofs.Same.{starts-length}
 use Rattle.field.proofs.Part.{split}
 use Rattle.logs.specs.Record.{Check, Rec, check, length_of, size, encode_check}
 use Rattle.logs.specs.Table.{kinds, kind_at}
 use Rattle.logs.specs.Write.{lk_of, check_of}
-use Rattle.logs.specs.Log.{Open, State, first, after, after_all, read_rec, read_recs, read_check, Log, read_log, at_end, ending_at, last_forced}
+use Rattle.logs.specs.Log.{State, first, after, after_all, read_rec, read_recs, read_check, Log, read_log, at_end, ending_at, last_forced}
 use Rattle.logs.specs.Scan.{log_no, shown, shut, lost, turned, Ready, topped, answer, scanned, mark_of, noted, live, finished}
 use Rattle.logs.specs.declared.scan.Walk.{Walk}
 use Rattle.logs.specs.declared.scan.Scan.{Scan}

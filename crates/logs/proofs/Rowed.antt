@@ -6,17 +6,17 @@ use native.Mathlib.Omega.{arith}
 use mathlib.Core.Path.{◌≡◌, refl, sym, ap, ◌∙◌}
 use mathlib.Core.Bool.{Bool, true, false, not}
 use mathlib.Core.List.{List, [], ◌∷◌, ◌++◌}
-use lib.ListN.{length, take, drop, get_or}
-use lib.Dec.{eqb, leb}
-use borrow.Author.Tests.{eq-eqb, ne_eqb, le-leb, lt-leb, not-true, not-false}
-use Rattle.field.specs.Test.{both, all, pick}
+use lib.ListN.{length, take, drop}
+use lib.Dec.{leb}
+use borrow.Author.Tests.{le-leb, lt-leb, not-true, not-false}
+use Rattle.field.specs.Test.{all, pick}
 use Rattle.field.specs.Bytes.{part, put, starts, le2, le4, bytes2, bytes4, most4}
 use Rattle.field.proofs.Test.{both_true, both_false, both_end, pick_true, pick-false}
 use Rattle.field.proofs.Part.{split, part-drop}
 use Rattle.page.specs.Page.{rows_of, joined, key_of, ascend, ascend_records}
 use Rattle.page.proofs.Rows.{joined-rows_of, length-rows_of, key_row}
 use Rattle.page.proofs.Order.{First, ascend-facts}
-use Rattle.logs.specs.Record.{Rec, LO, length_of, kind_of, carried, size, header, encode}
+use Rattle.logs.specs.Record.{LO, length_of, kind_of, carried, size, header, encode}
 use Rattle.logs.specs.Table.{kinds, kind_at}
 use Rattle.logs.specs.Write.{paged}
 use Rattle.logs.specs.Log.{largest}

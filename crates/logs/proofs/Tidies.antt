@@ -1,17 +1,15 @@
 -- Units that tidy and those that save, in the pass over the log: which turn is whose, and that a unit which tidies stays one. Assumes nothing.
 use Prim.Native.Nat.{ℕ, ◌≤◌}
-use mathlib.Core.Path.{◌≡◌, refl, sym, ap, ◌∙◌, subst}
+use mathlib.Core.Path.{◌≡◌, refl, sym, ap, ◌∙◌}
 use mathlib.Core.Bool.{Bool, true, false, not, false≢true}
 use mathlib.Core.List.{List}
-use lib.ListN.{length, drop, get_or}
-use lib.Dec.{eqb, leb}
+use lib.ListN.{length, drop}
+use lib.Dec.{leb}
 use borrow.Author.Tests.{leb-true, le-leb, not-true}
 use Rattle.field.specs.Test.{pick}
 use Rattle.field.proofs.Test.{both-1, both-2, both-intro, pick_true, pick-false}
-use Rattle.logs.specs.Record.{begin, type_at}
-use Rattle.logs.specs.Plan.{Step, take_out, bring_in, point, close, plan}
-use Rattle.logs.specs.Log.{saves_at, read_begin}
-use Rattle.logs.specs.Stand.{stands_begin}
+use Rattle.logs.specs.Plan.{Step, take_out, bring_in, point, close}
+use Rattle.logs.specs.Log.{saves_at}
 use Rattle.logs.specs.Scan.{lost, begun, went, ended, stepped, turned, saving_on, live, tidies_on}
 use Rattle.logs.specs.declared.scan.Walk.{Walk}
 

@@ -11,7 +11,7 @@ use lib.ListN.{length, take, drop, get_or, length-append}
 use lib.Seq.{drop-drop, drop_at, take_at}
 use lib.Dec.{eqb, leb}
 use borrow.Author.Tests.{eq-eqb, ne_eqb, le-leb, leb-true}
-use Rattle.field.specs.Test.{both, all, pick, when}
+use Rattle.field.specs.Test.{both, pick, when}
 use Rattle.field.specs.Bytes.{part, zeroes, all_zero, starts, le2, le4, bytes2, bytes4, most4}
 use Rattle.field.proofs.Test.{both-intro, all_head, all_tail, all_nil, all-intro, pick_true, pick-false, when_true, bind-intro}
 use Rattle.field.proofs.Number.{le2-drop, le4-drop, le2-bytes2, le4-bytes4}

@@ -1,5 +1,4 @@
 -- The code's step, as a step of the plan. Assumes nothing.
-use Rattle.std.specs.Prelude.{ℕ}
 use Rattle.logs.specs.declared.steps.Planned.{Planned}
 use Rattle.logs.specs.declared.steps.Planned.TheVariants.{Out, In, Point, Close}
 use Rattle.logs.specs.Plan.{Step, take_out, bring_in, point, close}

@@ -86,7 +86,7 @@ some-open (some o) s w k e = (o, refl)
 
 -- what `next_of` has tested
 pub record Next (x : Step) (xs : List Step) (s : State) (w : List ℕ) (r : Rec) : Type 0 where
-  pub record_of_lem : next_rec x (did_of s.opened) (page_of (target_of x) w) ≡ some r
+  pub record_of : next_rec x (did_of s.opened) (page_of (target_of x) w) ≡ some r
   pub fits : s.at + room w (x ∷ xs) ≤ log_length
   pub numbered : s.number + 1 ≤ most4
 
@@ -96,7 +96,7 @@ next-facts x xs s w r e =
     let b = bind-some (next_rec x (did_of s.opened) (page_of (target_of x) w)) _ r e in
     let t = when-some _ b.from r b.gives in
     record {
-      record_of_lem = b.was ∙ ap some t.1;
+      record_of = b.was ∙ ap some t.1;
       fits = leb-true (s.at + room w (x ∷ xs)) log_length (both-1 _ _ t.0);
       numbered = leb-true (s.number + 1) most4 (both-2 _ _ t.0);
     }

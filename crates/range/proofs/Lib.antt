@@ -1,5 +1,4 @@
--- What the proofs by hand over the reader share; positions in a well-formed tree, and, last, that a range reader gives exactly list's records.
-pub mod Held
+-- Positions in a well-formed tree, and, last, that a range reader gives exactly list's records.
 pub mod Rising
 pub mod Bounds
 pub mod Standing

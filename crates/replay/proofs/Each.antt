@@ -15,7 +15,7 @@ module _ {R : Type 0} {A : ℕ → R → Type 0} where
   -- the last of them
   pub each-drop : {n : ℕ} (rs ts : List R) → Each A n (rs ++ ts) → Each A (n + length rs) ts
   each-drop {n} [] ts h = let e : n + 0 ≡ n = omega arith in rw e h
-  each-drop {n} (r ∷ rs) ts (also a h) = let e : n + 1 + length rs ≡ n + length (r ∷ rs) = omega arith in rw e at (each-drop rs ts h)
+  each-drop {n} (r ∷ rs) ts (also a h) = let e : n + 1 + length rs ≡ n + length (r ∷ rs) = omega arith in rw e at (each-drop {n = n + 1} rs ts h)
 
   -- one more
   pub each_snoc : {n m : ℕ} {rs : List R} (r : R) → m ≡ n + length rs → Each A n rs → A m r → Each A n (rs ++ (r ∷ []))

@@ -287,7 +287,7 @@ module _ (F : Format) (M : Meaning F) (P : PageLaws F M) (U : UnitLaws F M) wher
     pub complete : left c work (l ++ rest) ≡ 0
     pub live : Live F M o work s c (l ++ rest) f
 
-  finished : {o w s : Pages} {c : Check} {l : List Rec} {f : ℕ} → Live F M o w s c l f → Able F M o c w l → Finished o c w l s f
+  finished : {o s : Pages} {c : Check} {w : Pages} {l : List Rec} {f : ℕ} → Live F M o w s c l f → Able F M o c w l → Finished o c w l s f
   unfolding finish bind
   finished {w = w} {l = l} v (closed a z g) =
       let e : l ++ [] ≡ l = append-nil l in

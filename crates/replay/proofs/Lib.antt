@@ -8,3 +8,4 @@ pub mod Uncut
 pub mod Kept
 pub mod Theorem
 pub mod Toy
+pub mod Small

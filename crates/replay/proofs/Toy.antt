@@ -13,23 +13,22 @@ use native.Mathlib.Omega.{arith}
 use lib.Dec.{leb, eqb}
 use lib.ListN.{length}
 use borrow.Author.Tests.{eq-eqb, ne_eqb}
-use Rattle.replay.specs.Store.{run, Format, again, finish, recover, Meaning, Settled, Uncut, Reached, Recovers}
+use Rattle.replay.specs.Store.{run, Format, again, finish, recover, Meaning, Settled, Uncut, Reached}
 use Rattle.replay.specs.Laws.{Each, also, Touches, Passes, PageLaws, Able, closed, more, UnitLaws}
 use Rattle.replay.proofs.Able.{able-shape, able-fine, able-next}
-use Rattle.replay.proofs.Theorem.{theorem}
 
 -- a page: its stamp and its number
-record Page : Type 0 where
+pub record Page : Type 0 where
   stamp : ℕ
   value : ℕ
 
-record Pages : Type 0 where
+pub record Pages : Type 0 where
   first : Page
   second : Page
   third : Page
 
 -- the three records of a unit; q is the place
-data Rec : Type 0 where
+pub data Rec : Type 0 where
   opens ends : Rec
   puts : (q : ℕ) → Rec
 
@@ -112,7 +111,7 @@ follows (suc zero) w = some ends
 follows (suc (suc k)) w = bind (lowest w) (λ q. some (puts q))
 
 -- the format
-abbrev toy : Format
+abbrev pub toy : Format
 toy = record {
   Page = Page;
   Pages = Pages;
@@ -141,7 +140,7 @@ mark (suc zero) w = three w.first (failed w.second) w.third
 mark (suc (suc q)) w = three w.first w.second (failed w.third)
 
 -- its meaning; lengths and forms ask nothing
-abbrev means : Meaning toy
+abbrev pub means : Meaning toy
 means = record {
   Sized = λ w. Unit {0};
   Form = λ p pg. Unit {0};
@@ -221,7 +220,7 @@ concerns n (puts q) (suc p) = elim (ℕ_discrete q (suc p)) [
 ]
 
 -- so the laws of pages hold
-toy-pages : PageLaws toy means
+pub toy-pages : PageLaws toy means
 unfolding again
 toy-pages = record {
   same-pages = λ v w a b h. same v w (h 0 (omega arith)) (h 1 (omega arith)) (h 2 (omega arith));
@@ -379,7 +378,7 @@ settle o c c' w q l s e =
     }
 
 -- so the laws of units hold
-toy-units : UnitLaws toy means
+pub toy-units : UnitLaws toy means
 toy-units = record {
   unit = λ o c w w' l r s b e.
       let (q, i, h) = b in
@@ -401,10 +400,6 @@ toy-units = record {
   where
     opens-keeps : (n : ℕ) (w : Pages) → some w ≡ each (change n opens) w
     opens-keeps n w = unfold bind in refl
-
--- and the theorem with them
-toy-theorem : {o s : Pages} {x : Option Pages} {c : ℕ} {l : List Rec} {f : ℕ} → Reached toy means o x s c l f → Recovers toy means o s c l
-toy-theorem g = theorem toy means toy-pages toy-units g
 
 -- ---- one history: a unit cut short after its put was forced and page 0 flushed, so that the store is torn
 

@@ -79,7 +79,7 @@ module _ (F : Format) (M : Meaning F) (P : PageLaws F M) (U : UnitLaws F M) wher
       quiet p i (inr h) = rw h.0 (each_snoc r (omega arith) (s.quiet p i) (inr h.1))
 
   -- every uncut run from settled pages
-  pub sound : {o w : Pages} {c : Check} {l : List Rec} → Settled F M o o c [] → Uncut F M o c w l → Sound F M o c w l
+  pub sound : {o : Pages} {c : Check} {w : Pages} {l : List Rec} → Settled F M o o c [] → Uncut F M o c w l → Sound F M o c w l
   sound g Uncut.start =
       record {
         formed = g.formed;

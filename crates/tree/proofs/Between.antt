@@ -15,7 +15,7 @@ use Rattle.field.proofs.Test.{both-1, both-2, both_true, both_false, both-assoc,
 use Rattle.field.proofs.Part.{split}
 use Rattle.field.proofs.Number.{le4-small}
 use Rattle.field.proofs.Byte.{bytes-nil}
-use Rattle.page.specs.Page.{rows_of, key_of, to_page, count, rows, entries}
+use Rattle.page.specs.Page.{rows_of, key_of, to_page, count, rows}
 use Rattle.page.specs.Pages.{page, pages}
 use Rattle.page.specs.Each.{Each, nil, cons}
 use Rattle.page.proofs.Rows.{key_row, each_at, length-rows}

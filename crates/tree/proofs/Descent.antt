@@ -11,9 +11,9 @@ use lib.Dec.{leb}
 use borrow.Author.Tests.{eq-eqb, ne_eqb, le-leb, lt-leb, leb-true, not-true, not-false}
 use Rattle.field.specs.Test.{both, pick, given}
 use Rattle.field.specs.Bytes.{part, put, zeroes, le2, le4}
-use Rattle.field.proofs.Test.{both-1, both-2, both_true, both_false, pick-either, need-true, need-false}
+use Rattle.field.proofs.Test.{both-1, both-2, pick-either, need-true, need-false}
 use Rattle.field.proofs.Part.{split, part-drop, part-part, length_part, lent-part, put_front}
-use Rattle.page.specs.Page.{root, base, leaf, empty, rows_of, key_of, to_page, value_of, pointing, letter, count, rows, entries, records}
+use Rattle.page.specs.Page.{root, base, leaf, empty, rows_of, key_of, to_page, value_of, pointing, letter, count, rows, entries}
 use Rattle.page.specs.Page.{first_base, last_base, first_leaf, last_leaf, is_root, is_base, is_leaf, is_empty, formed}
 use Rattle.page.specs.Places.{Basic, Leafy}
 use Rattle.page.specs.Pages.{page}

@@ -1,5 +1,5 @@
 -- The walk through all records in key order: what is left at a position, and at the next one. Assumes nothing.
-use Prim.Native.Nat.{ℕ, ◌+◌, ◌-◌, ◌*◌, ◌≤◌, ◌<◌}
+use Prim.Native.Nat.{ℕ, ◌+◌, ◌*◌, ◌≤◌, ◌<◌}
 use native.Mathlib.Nat.{mul-suc}
 use native.Mathlib.Numerals.{add-one}
 use native.Mathlib.Omega.{arith}
@@ -8,7 +8,6 @@ use mathlib.Core.List.{List, [], ◌∷◌, ◌++◌, append_assoc}
 use lib.ListN.{length, drop, get_or, length-append, drop_of_length-le}
 use lib.Seq.{drop-cons}
 use borrow.Author.Tests.{eq-eqb, ne_eqb}
-use Rattle.field.specs.Test.{all}
 use Rattle.field.specs.Bytes.{part, le2}
 use Rattle.field.proofs.Test.{all_head, pick_true, pick-false}
 use Rattle.field.proofs.Number.{le2-part}

@@ -8,7 +8,7 @@ use mathlib.Core.List.{List, [], ◌∷◌, ◌++◌}
 use lib.ListN.{length, take, drop, get_or}
 use borrow.Author.Tests.{leb-true}
 use Rattle.field.proofs.Test.{both-1, both-2}
-use Rattle.page.specs.Page.{root, base, leaf, rows_of, to_page, pointing, count, rows, entries, first_base, last_base, first_leaf, last_leaf, is_base, is_leaf, is_empty, formed}
+use Rattle.page.specs.Page.{base, leaf, rows_of, to_page, pointing, count, rows, first_base, last_base, first_leaf, last_leaf, is_base, is_leaf, is_empty, formed}
 use Rattle.page.specs.Places.{Basic, Leafy}
 use Rattle.page.specs.Pages.{page, pages}
 use Rattle.page.specs.Each.{Each, nil, cons}

@@ -13,7 +13,7 @@ use Rattle.field.specs.Test.{both, pick}
 use Rattle.field.specs.Bytes.{le2}
 use Rattle.field.proofs.Test.{both-1, both-2, both_true, both_false, pick_true}
 use Rattle.field.proofs.Part.{split}
-use Rattle.page.specs.Page.{rows_of, to_page, count, letter, rows, entries, is_empty, formed}
+use Rattle.page.specs.Page.{rows_of, to_page, count, letter, rows, is_empty, formed}
 use Rattle.page.specs.Pages.{page, pages}
 use Rattle.page.proofs.Rows.{page-row, length-rows}
 use Rattle.page.proofs.Turns.{rows_next}

@@ -1,9 +1,9 @@
 -- Build's pages as the code makes them: how many groups, a leaf's first key, entries one after the other, and one page of the layout.
 -- Assumes nothing.
-use Rattle.std.specs.Prelude.{ℕ, zero, suc, ◌+◌, ◌-◌, ◌*◌, ◌/◌, ◌≤◌, ◌<◌, Bool, true, false, List, [], ◌∷◌, length, take, drop, get_or, eqb, leb, ltb}
+use Rattle.std.specs.Prelude.{ℕ, zero, suc, ◌+◌, ◌-◌, ◌*◌, ◌/◌, ◌≤◌, ◌<◌, List, [], ◌∷◌, length, get_or, eqb, leb, ltb}
 use Rattle.field.specs.Test.{pick}
 use Rattle.field.specs.Bytes.{le4}
-use Rattle.page.specs.Page.{Kind, root, base, leaf, empty, first_base, last_base, base_pages, first_leaf, leaf_pages, rows_of, entry}
+use Rattle.page.specs.Page.{Kind, root, base, leaf, empty, first_base, last_base, base_pages, first_leaf, leaf_pages, entry}
 use Rattle.page.specs.Places.{base_place}
 use Rattle.tree.specs.Layout.{fresh, leaf_groups, base_groups, entries_to}
 

@@ -1,5 +1,5 @@
 -- A position in key order, on plain numbers: the records still to come from it, and what it stands on. Assumes nothing.
-use Rattle.std.specs.Prelude.{ℕ, ◌+◌, ◌-◌, ◌*◌, ◌<◌, ◌≡◌, Bool, true, false, List, [], ◌∷◌, ◌++◌, length, take, drop, eqb, ltb}
+use Rattle.std.specs.Prelude.{ℕ, ◌+◌, ◌-◌, ◌*◌, ◌<◌, ◌≡◌, Bool, true, List, [], ◌++◌, length, take, drop, eqb, ltb}
 use Rattle.field.specs.Test.{pick}
 use Rattle.field.specs.Bytes.{put}
 use Rattle.page.specs.Page.{joined, count, rows}

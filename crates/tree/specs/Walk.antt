@@ -1,6 +1,6 @@
 -- The clauses of the well-formed tree as the code tests them: a page's rows lie between two numbers, the upper one being the next entry's
 -- key or, behind the last entry, one that no key reaches; a page is pointed to as often as an array of counts says. Assumes nothing.
-use Rattle.std.specs.Prelude.{ℕ, ◌+◌, ◌*◌, ◌≤◌, ◌<◌, ◌≡◌, Bool, true, false, List, [], ◌∷◌, length, get_or, eqb, leb, ltb}
+use Rattle.std.specs.Prelude.{ℕ, ◌+◌, ◌*◌, ◌≤◌, ◌<◌, ◌≡◌, Bool, true, List, [], ◌∷◌, length, get_or, eqb, leb, ltb}
 use Rattle.field.specs.Test.{both, pick}
 use Rattle.page.specs.Page.{key_of, to_page, ascend, count, rows, is_empty}
 use Rattle.page.specs.Pages.{page, pages, all_formed}

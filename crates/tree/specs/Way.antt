@@ -1,7 +1,7 @@
 -- One step of find as the code makes it: the page below, or the reply where the way ends; and what find returns of an answer, its reply
 -- and ten bytes. Assumes nothing.
-use Rattle.std.specs.Prelude.{ℕ, Bool, not, List, [], ◌∷◌}
-use Rattle.std.proofs.Math.Option.{Option, some, none}
+use Rattle.std.specs.Prelude.{ℕ, Bool, not, List}
+use Rattle.std.proofs.Math.Option.{none}
 use Rattle.field.specs.Test.{both, need, given}
 use Rattle.field.specs.Bytes.{zeroes}
 use Rattle.page.specs.Page.{value_of, entries, records, is_empty, formed}

@@ -1,6 +1,7 @@
 // The public calls as documents 01 and 02 have them: bytes used and bytes forced are one small record that each call is lent and updates. A call hands
 // its core a copy of that record, puts what comes back in its place and returns the rest; so its contract is the core's, with the record at
-// entry and at exit for the numbers. Beside them stand the range reader's two, lent the work pages alone. These are also the names that C has.
+// entry and at exit for the numbers. Beside them stand the range reader's two, lent the work pages alone. C has them, by the same names, from
+// `uhtlight_c`.
 #![tactic(auto)]
 
 ghost use Rattle.std.specs.Prelude.{◌≡◌, [], ◌∷◌};
@@ -16,8 +17,7 @@ use tree::find::Found;
 use tree::walk::Place;
 
 // A tree of these records, in work and store alike, and a new log.
-#[unsafe(no_mangle)]
-pub extern "C" fn uhtlight_build(
+pub fn uhtlight_build(
     n: &mut Numbers,
     work: &mut [u8],
     store: &mut [u8],
@@ -35,13 +35,7 @@ pub extern "C" fn uhtlight_build(
 }
 
 // The work pages from the store and the log: what the log holds is repeated, an open unit finished.
-#[unsafe(no_mangle)]
-pub extern "C" fn uhtlight_recover(
-    n: &mut Numbers,
-    work: &mut [u8],
-    store: &[u8],
-    log: &mut [u8],
-) -> Recovered
+pub fn uhtlight_recover(n: &mut Numbers, work: &mut [u8], store: &[u8], log: &mut [u8]) -> Recovered
     ensures recovered { left result.reply (result.count ∷ []) (lent n.new.used n.new.forced work.new store.now log.new [])
         ≡ recover (lent n.old.used n.old.forced work.old store.now log.old []) }
 {
@@ -51,13 +45,7 @@ pub extern "C" fn uhtlight_recover(
 }
 
 // A compact unit is begun, of leaves that hold at most `fill` records together; 0 means 12.
-#[unsafe(no_mangle)]
-pub extern "C" fn uhtlight_begin_compact(
-    n: &mut Numbers,
-    work: &[u8],
-    log: &mut [u8],
-    fill: u32,
-) -> u8
+pub fn uhtlight_begin_compact(n: &mut Numbers, work: &[u8], log: &mut [u8], fill: u32) -> u8
     ensures begun { left result [] (lent n.new.used n.new.forced work.now [] log.new [])
         ≡ begin_compact fill (lent n.old.used n.old.forced work.now [] log.old []) }
 {
@@ -67,8 +55,7 @@ pub extern "C" fn uhtlight_begin_compact(
 }
 
 // A move or a swap is begun, of the first leaf that is not on its place.
-#[unsafe(no_mangle)]
-pub extern "C" fn uhtlight_begin_order(n: &mut Numbers, work: &[u8], log: &mut [u8]) -> u8
+pub fn uhtlight_begin_order(n: &mut Numbers, work: &[u8], log: &mut [u8]) -> u8
     ensures begun { left result [] (lent n.new.used n.new.forced work.now [] log.new [])
         ≡ begin_order (lent n.old.used n.old.forced work.now [] log.old []) }
 {
@@ -78,8 +65,7 @@ pub extern "C" fn uhtlight_begin_order(n: &mut Numbers, work: &[u8], log: &mut [
 }
 
 // A put of this record is begun: it replaces the one with its key, or is added.
-#[unsafe(no_mangle)]
-pub extern "C" fn uhtlight_begin_put(n: &mut Numbers, work: &[u8], log: &mut [u8], r: &[u8]) -> u8
+pub fn uhtlight_begin_put(n: &mut Numbers, work: &[u8], log: &mut [u8], r: &[u8]) -> u8
     ensures begun { left result [] (lent n.new.used n.new.forced work.now [] log.new r.now)
         ≡ begin_put (lent n.old.used n.old.forced work.now [] log.old r.now) }
 {
@@ -89,13 +75,7 @@ pub extern "C" fn uhtlight_begin_put(n: &mut Numbers, work: &[u8], log: &mut [u8
 }
 
 // A delete of the record with this key is begun.
-#[unsafe(no_mangle)]
-pub extern "C" fn uhtlight_begin_delete(
-    n: &mut Numbers,
-    work: &[u8],
-    log: &mut [u8],
-    key: u32,
-) -> u8
+pub fn uhtlight_begin_delete(n: &mut Numbers, work: &[u8], log: &mut [u8], key: u32) -> u8
     ensures begun { left result [] (lent n.new.used n.new.forced work.now [] log.new [])
         ≡ begin_delete key (lent n.old.used n.old.forced work.now [] log.old []) }
 {
@@ -105,8 +85,7 @@ pub extern "C" fn uhtlight_begin_delete(
 }
 
 // The next step of the open unit: its record is appended to the log, and its page change made.
-#[unsafe(no_mangle)]
-pub extern "C" fn uhtlight_step(n: &mut Numbers, work: &mut [u8], log: &mut [u8]) -> u8
+pub fn uhtlight_step(n: &mut Numbers, work: &mut [u8], log: &mut [u8]) -> u8
     ensures stepped { left result [] (lent n.new.used n.new.forced work.new [] log.new [])
         ≡ step (lent n.old.used n.old.forced work.old [] log.old []) }
 {
@@ -116,14 +95,7 @@ pub extern "C" fn uhtlight_step(n: &mut Numbers, work: &mut [u8], log: &mut [u8]
 }
 
 // One work page is written to the store, where its last change is forced.
-#[unsafe(no_mangle)]
-pub extern "C" fn uhtlight_flush(
-    n: &mut Numbers,
-    work: &[u8],
-    store: &mut [u8],
-    log: &[u8],
-    p: u32,
-) -> u8
+pub fn uhtlight_flush(n: &mut Numbers, work: &[u8], store: &mut [u8], log: &[u8], p: u32) -> u8
     ensures flushed { left result [] (lent n.new.used n.new.forced work.now store.new log.now [])
         ≡ flush p (lent n.old.used n.old.forced work.now store.old log.now []) }
 {
@@ -133,8 +105,7 @@ pub extern "C" fn uhtlight_flush(
 }
 
 // All bytes used are forced.
-#[unsafe(no_mangle)]
-pub extern "C" fn uhtlight_force(n: &mut Numbers, log: &[u8]) -> u8
+pub fn uhtlight_force(n: &mut Numbers, log: &[u8]) -> u8
     ensures forced { left result [] (lent n.new.used n.new.forced [] [] log.now [])
         ≡ force (lent n.old.used n.old.forced [] [] log.now []) }
 {
@@ -144,8 +115,7 @@ pub extern "C" fn uhtlight_force(n: &mut Numbers, log: &[u8]) -> u8
 }
 
 // The log is replaced by one check record with the next number, where the store holds all that the work pages do.
-#[unsafe(no_mangle)]
-pub extern "C" fn uhtlight_checkpoint(
+pub fn uhtlight_checkpoint(
     n: &mut Numbers,
     work: &[u8],
     store: &[u8],
@@ -161,8 +131,7 @@ pub extern "C" fn uhtlight_checkpoint(
 }
 
 // The value of the record with this key.
-#[unsafe(no_mangle)]
-pub extern "C" fn uhtlight_find(n: &mut Numbers, work: &[u8], log: &[u8], key: u32) -> Found
+pub fn uhtlight_find(n: &mut Numbers, work: &[u8], log: &[u8], key: u32) -> Found
     ensures found { left result.reply result.value (lent n.new.used n.new.forced work.now [] log.now [])
         ≡ find key (lent n.old.used n.old.forced work.now [] log.now []) }
 {
@@ -172,8 +141,7 @@ pub extern "C" fn uhtlight_find(n: &mut Numbers, work: &[u8], log: &[u8], key: u
 }
 
 // The records whose keys are low to high, both included, written to out as far as they fit whole.
-#[unsafe(no_mangle)]
-pub extern "C" fn uhtlight_list(
+pub fn uhtlight_list(
     n: &mut Numbers,
     work: &[u8],
     log: &[u8],
@@ -190,16 +158,14 @@ pub extern "C" fn uhtlight_list(
 }
 
 // Where the range reader starts that is to give the records from this key on.
-#[unsafe(no_mangle)]
-pub extern "C" fn uhtlight_range_start(work: &[u8], key: u32) -> Reached
+pub fn uhtlight_range_start(work: &[u8], key: u32) -> Reached
     ensures started { result ≡ start_from work.now key }
 {
     range::start_from(work, key)
 }
 
 // The record at a position of the range reader, and the position after it. The caller keeps the position and lends the same pages again.
-#[unsafe(no_mangle)]
-pub extern "C" fn uhtlight_range_next(work: &[u8], at: Place) -> Step
+pub fn uhtlight_range_next(work: &[u8], at: Place) -> Step
     ensures found { result ≡ next_from work.now at }
 {
     range::next_from(work, at)

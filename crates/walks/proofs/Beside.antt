@@ -14,7 +14,7 @@ use mathlib.Core.List.{List, [], ◌∷◌}
 use lib.ListN.{length}
 use lib.Dec.{T as Holds}
 use seplogic.Ra.Ura.{Ura}
-use seplogic.Ra.TreeShare.{full_share}
+use base.Fraction.{full_share}
 use mir.Syntax.{Width, imm, ty_bool, ty_struct, tcons, tnil, w64, Ty, Lifetime, erased, ty_ref, ty_int, w8, Local, local, value_local, place, field}
 use mir.Syntax.{deref, Opd as Operand, copy, addr_of, aggregate, Body, seq, assign}
 use mir.Val.{Val, WT, has_ty, vptr, vint, vbool, bits}
@@ -163,7 +163,14 @@ module _ {M : Type 1} (𝓤 : Ura M) (H : Heap 𝓤) where
   pub loan-spots : (os : List Beside) (bs : LoanAddrs os) → LoanSpots (loan_env os bs) 0 os bs
   loan-spots [] bs = tt
   loan-spots (handed τ v t ∷ os) bs = loan-spots os bs
-  loan-spots (relent ℓ b o m r ∷ os) bs = (refl, (refl, loan-spots-more _ _ 1 os bs.1.1 (loan-spots-more _ _ 0 os bs.1.1 (loan-spots os bs.1.1))))
+  loan-spots (relent ℓ b o m r ∷ os) bs = (
+    refl,
+    (
+      refl,
+      loan-spots-more (pointer_ty, bs.0) ((slice_ty erased, bs.1.0) ∷ loan_env os bs.1.1) 1 os bs.1.1
+          (loan-spots-more (slice_ty erased, bs.1.0) (loan_env os bs.1.1) 0 os bs.1.1 (loan-spots os bs.1.1)),
+    ),
+  )
 
   -- behind the parameters' own
   pub spot-behind : (os : List Beside) (us : OwnAddrs os) (E : Env 𝓤 H) (j : ℕ) → spot_of 𝓤 H (own_env os us E) (behind os j) ≡ spot_of 𝓤 H E j
@@ -188,20 +195,20 @@ module _ {M : Type 1} {𝓤 : Ura M} (𝓛 : Logic 𝓤) where
   pub allocates-own : (Γ : Items) (os : List Beside) (ls : List Local) (g : Env 𝓤 H → Goal 𝓤 H) →
       ((us : OwnAddrs os) → Goes (‵ (own_rooms os us) ∷ Γ) (allocs ls (λ E. g (own_env 𝓤 H os us E)))) → Goes Γ (allocs (own_locals os ls) g)
   allocates-own Γ [] ls g k = nothing ! $ k tt
-  allocates-own Γ (x ∷ os) ls g k = alloc1 ! (λ a. allocates-own _ os ls (λ E. g ((ty_of x, a) ∷ E)) (λ us. move ! (1 ∷ 2 ∷ 0 ∷ []) $ fjoin3 ! $ k (a, us)))
+  allocates-own Γ (x ∷ os) ls g k = alloc1 ! (λ a. allocates-own (‵ (froom (ty_of x) a 0) ∷ ‵ (fdies (ty_of x) a) ∷ Γ) os ls (λ E. g ((ty_of x, a) ∷ E)) (λ us. move ! (1 ∷ 2 ∷ 0 ∷ []) $ fjoin3 ! $ k (a, us)))
 
   pub allocates-loans : (Γ : Items) (os : List Beside) (g : Env 𝓤 H → Goal 𝓤 H) → ((bs : LoanAddrs os) → Goes (‵ (loan_rooms os bs) ∷ Γ) (g (loan_env 𝓤 H os bs)))
       → Goes Γ (allocs (loan_locals os) g)
   allocates-loans Γ [] g k = alloc0 ! $ nothing ! $ k tt
   allocates-loans Γ (handed τ v t ∷ os) g k = allocates-loans Γ os g k
   allocates-loans Γ (relent ℓ b o m r ∷ os) g k =
-      alloc1 ! (λ a. alloc1 ! (λ a'. allocates-loans _ os (λ E. g ((pointer_ty, a) ∷ (slice_ty erased, a') ∷ E))
+      alloc1 ! (λ a. alloc1 ! (λ a'. allocates-loans (‵ (froom (slice_ty erased) a' 0) ∷ ‵ (fdies (slice_ty erased) a') ∷ ‵ (froom pointer_ty a 0) ∷ ‵ (fdies pointer_ty a) ∷ Γ) os (λ E. g ((pointer_ty, a) ∷ (slice_ty erased, a') ∷ E))
       (λ bs. move ! (1 ∷ 2 ∷ 0 ∷ []) $ fjoin3 ! $ move ! (1 ∷ 2 ∷ 0 ∷ []) $ fjoin3 ! $ k (a, (a', bs)))))
 
   pub passes-own : (Γ : Items) (os : List Beside) (us : OwnAddrs os) (E : Env 𝓤 H) (g : Goal 𝓤 H) → Goes (‵ (own_cells os us) ∷ Γ) g → Goes
       (‵ (own_rooms os us) ∷ Γ) (passes (own_env 𝓤 H os us E) (values_of os) g)
   passes-own Γ [] us E g k = pass0 ! $ k
-  passes-own Γ (x ∷ os) us E g k = fsplit3 ! $ pass1 ! (init ! 0 refl (typed x)) $ move ! (2 ∷ []) $ passes-own _ os us.1 E g (move ! (1 ∷ 2 ∷ 0 ∷ []) $ fjoin3 ! $ k)
+  passes-own Γ (x ∷ os) us E g k = fsplit3 ! $ pass1 ! (init ! 0 refl (typed x)) $ move ! (2 ∷ []) $ passes-own (‵ (fat full_share (ty_of x) us.0 zero (value_of x)) ∷ ‵ (fdies (ty_of x) us.0) ∷ Γ) os us.1 E g (move ! (1 ∷ 2 ∷ 0 ∷ []) $ fjoin3 ! $ k)
 
   pub frees-own : (Γ : Items) (os : List Beside) (us : OwnAddrs os) (E : Env 𝓤 H) (g : Goal 𝓤 H) → Goes Γ (frees E g) → Goes (‵ (own_cells os us) ∷ Γ) (frees (own_env 𝓤 H os us E) g)
   frees-own Γ [] us E g k = drop ! $ k
@@ -217,7 +224,7 @@ module _ {M : Type 1} {𝓤 : Ura M} (𝓛 : Logic 𝓤) where
         → Goes (‵ (own_cells os us) ∷ ‵ (loan_cells os bs) ∷ Γ) (runs C Λ E rest p) → Goes (‵ (own_cells os us) ∷ ‵ (loan_rooms os bs) ∷ Γ) (runs C Λ E (relend_code os i j rest) p)
     lends_again Γ [] us bs i j rest s u k = k
     lends_again Γ (handed τ v t ∷ os) us bs i j rest s u k =
-        fsplit3 ! $ move ! (2 ∷ 3 ∷ []) $ lends_again _ os us.1 bs (suc i) j rest s.1 u (move ! (2 ∷ 3 ∷ 0 ∷ []) $ fjoin3 ! $ k)
+        fsplit3 ! $ move ! (2 ∷ 3 ∷ []) $ lends_again (‵ (fat full_share τ us.0 zero v) ∷ ‵ (fdies τ us.0) ∷ Γ) os us.1 bs (suc i) j rest s.1 u (move ! (2 ∷ 3 ∷ 0 ∷ []) $ fjoin3 ! $ k)
     lends_again Γ (relent ℓ b o m r ∷ os) us bs i j rest s u k =
         fsplit3 ! $ move ! (3 ∷ []) $ fsplit3 ! $ move ! (2 ∷ []) $ fsplit3 ! $
         -- [room; dies; the other loans' rooms; room; dies; the slice; dies; the other slices; Γ]

@@ -10,7 +10,7 @@ use mathlib.Core.Path.{◌≡◌}
 use Prim.Native.Nat.{ℕ}
 use mathlib.Core.List.{List, [], ◌∷◌}
 use seplogic.Ra.Ura.{Ura}
-use mir.Syntax.{Name, Fn}
+use mir.Syntax.{Callee, Fn}
 use base.Logic.{SProp, ent, sep, ex, emp, via, comm∗, emp∗, ex_i, mono_l, mono_r, wand, wand_i, apply∗}
 use base.Fml.{Fml, ftrue}
 use prog.Model.{Model}
@@ -83,15 +83,15 @@ module _ {M : Type 1} {𝓤 : Ura M} (𝓛 : Logic 𝓤) where
   -- of the calls C the walk may use that they are monotone under a frame, and that the callee k' meets the contract c'
   open 𝓛 use {H}
 
-  abbrev pub WalksOver : (S : Signature) → Spec 𝓤 S → Fn → ((κs : Lfts S.lifetimes) → Spells (types_at S.params κs)) → Name →
+  abbrev pub WalksOver : (S : Signature) → Spec 𝓤 S → Fn → ((κs : Lfts S.lifetimes) → Spells (types_at S.params κs)) → Callee →
       (S' : Signature) → Spec 𝓤 S' → Type 2
   WalksOver S c e sp k' S' c' = (C : Calls 𝓤 H) (Λ : Loops 𝓤 H) → FmC 𝓤 H 𝓛.laws C → Triple 𝓤 (C k') (triple_of 𝓛 S' c') → Walk 𝓛 S c (WpFn 𝓤 H C Λ e) sp
 
   -- γ says what the calls in the code e of the function k mean; r' is the callee's routine
-  pub met-over : (𝓜 : Model 𝓤 H) (𝓡 : Running 𝓤 H 𝓜) (S : Signature) (c : Spec 𝓤 S) (γ : Env) (k : Name) (e : Fn) → Closed 𝓤 H
+  pub met-over : (𝓜 : Model 𝓤 H) (𝓡 : Running 𝓤 H 𝓜) (S : Signature) (c : Spec 𝓤 S) (γ : Env) (k : Callee) (e : Fn) → Closed 𝓤 H
       (tables 𝓤 H 𝓜 𝓡 γ).C (tables 𝓤 H 𝓜 𝓡 γ).Λ k e
       → (sp : (κs : Lfts S.lifetimes) → Spells (types_at S.params κs)) → ((κs : Lfts S.lifetimes) → Tellss (types_at S.params κs) (Ises (types_at S.params κs)) (sp κs))
-      → (k' : Name) (r' : Routine) → γ k' ≡ r' → (S' : Signature) (c' : Spec 𝓤 S') → Triple 𝓤 (𝓡.run r') (triple_of 𝓛 S' c') → WalksOver
+      → (k' : Callee) (r' : Routine) → γ k' ≡ r' → (S' : Signature) (c' : Spec 𝓤 S') → Triple 𝓤 (𝓡.run r') (triple_of 𝓛 S' c') → WalksOver
       S c e sp k' S' c'
       → Triple 𝓤 ((tables 𝓤 H 𝓜 𝓡 γ).C k) (triple_of 𝓛 S c)
   unfolding tables_of

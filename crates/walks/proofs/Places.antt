@@ -7,7 +7,7 @@ use mathlib.Core.Path.{◌≡◌, refl, sym, subst}
 use Prim.Native.Nat.{ℕ, zero}
 use mathlib.Core.List.{List, [], ◌∷◌}
 use seplogic.Ra.Ura.{Ura}
-use seplogic.Ra.TreeShare.{full_share}
+use base.Fraction.{full_share}
 use mir.Syntax.{erased, Lifetime, mut, ty_ref, ty_int, w8, w64, addr_of, aggregate, Ty, ty_struct, tcons, tnil, place, Step as PlaceStep, field, deref, copy, Body, seq, assign}
 use mir.Val.{Val, vptr}
 use base.Fml.{fat, froom}

@@ -1,10 +1,10 @@
 -- `field::zeros_long` meets its contract. The invariant: all bytes are zero where the gathered number is, and all that are left; and where
 -- that number is zero, so is the last block. Assumes nothing.
-use Prim.Native.Nat.{◌≤◌, ◌-◌}
+use Prim.Native.Nat.{◌-◌}
 use mathlib.Core.Path.{◌≡◌, sym, ◌∙◌}
 use mathlib.Core.Bool.{true}
 use native.Mathlib.Omega.{arith}
-use lib.ListN.{length, drop}
+use lib.ListN.{drop}
 use lib.Dec.{eqb}
 use Rattle.field.specs.Test.{both}
 use Rattle.field.specs.Bytes.{part, all_zero}

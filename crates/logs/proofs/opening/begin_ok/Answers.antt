@@ -5,7 +5,6 @@ use Prim.Native.Nat.{◌≤◌}
 use native.Mathlib.Omega.{arith}
 use lib.ListN.{get_or}
 use Rattle.logs.proofs.Begun.{type-counts, begin-type!, begin-bases!, begin-differ!, begin-leaves!, begin-rest! }
-use borrow.Author.Rules.{rules}
 use Rattle.logs.proofs.opening.begin_ok.Goals as goal
 use Rattle.logs.proofs.opening.begin_ok.Goals.{Else-not-type_ok}
 

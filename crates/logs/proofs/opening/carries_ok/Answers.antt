@@ -4,7 +4,6 @@ use mathlib.Core.Path.{ap}
 use native.Mathlib.Omega.{arith}
 use Rattle.logs.specs.Record.{length_of}
 use Rattle.logs.proofs.Typed.{carries-mark!, carries-put!, carries-rest! }
-use borrow.Author.Rules.{rules}
 use Rattle.logs.proofs.opening.carries_ok.Goals as goal
 
 pub records_ascend-requires : goal.records_ascend-requires

@@ -1,7 +1,6 @@
 -- `logs::opening::save_ok` meets its contract: each test that fails ends it. Assumes nothing.
 use native.Mathlib.Omega.{arith}
 use Rattle.logs.proofs.Typed.{save-type!, save-bases!, save-leaves!, save-fill!, save-dest!, save-rest! }
-use borrow.Author.Rules.{rules}
 use Rattle.logs.proofs.opening.save_ok.Goals as goal
 
 pub byte_at-requires : goal.byte_at-requires

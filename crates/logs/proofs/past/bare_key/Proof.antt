@@ -1,13 +1,11 @@
 -- `logs::past::bare_key` meets its contract. Assumes nothing.
-use Prim.Native.Nat.{◌≤◌}
 use native.Mathlib.Omega.{arith}
-use mathlib.Core.Path.{◌≡◌, sym, ◌∙◌}
-use lib.ListN.{length}
+use mathlib.Core.Path.{sym, ◌∙◌}
 use borrow.Author.Tests.{eq-eqb, ne_eqb}
 use Rattle.field.proofs.Test.{pick_true, pick-false}
 use Rattle.logs.specs.Record.{length_of}
 use Rattle.logs.specs.Table.{kinds, kind_at}
-use Rattle.logs.specs.Scan.{bare_long, bare_key}
+use Rattle.logs.specs.Scan.{bare_key}
 use Rattle.logs.proofs.Signs.{bare-point}
 use borrow.Author.Rules.{rules}
 use Rattle.logs.proofs.past.bare_key.Statement.{statement}

@@ -4,7 +4,6 @@ use borrow.Author.Tests.{eq-eqb, ne_eqb}
 use Rattle.field.proofs.Test.{pick_true, pick-false}
 use Rattle.logs.specs.Table.{kinds, kind_at}
 use Rattle.logs.specs.Scan.{bare_long}
-use borrow.Author.Rules.{rules}
 use Rattle.logs.proofs.past.bare_long.Goals as goal
 
 pub returns-then-sign : goal.returns-then-sign

@@ -3,7 +3,6 @@ use native.Mathlib.Omega.{arith}
 use Rattle.logs.specs.Record.{length_of}
 use Rattle.logs.specs.Table.{kinds, kind_at}
 use Rattle.logs.specs.Scan.{begun}
-use borrow.Author.Rules.{rules}
 use Rattle.logs.proofs.past.begun.Goals as goal
 
 pub size_of-requires : goal.size_of-requires

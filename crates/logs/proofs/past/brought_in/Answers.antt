@@ -4,7 +4,6 @@ use native.Mathlib.Omega.{arith}
 use mathlib.Core.Path.{◌∙◌}
 use Rattle.logs.specs.Record.{length_of}
 use Rattle.logs.specs.Table.{kinds, kind_at}
-use borrow.Author.Rules.{rules}
 use Rattle.logs.proofs.past.brought_in.Goals as goal
 
 pub went-requires : goal.went-requires

@@ -3,7 +3,6 @@ use native.Mathlib.Omega.{arith}
 use Rattle.logs.specs.Record.{length_of}
 use Rattle.logs.specs.Table.{kinds, kind_at}
 use Rattle.logs.specs.Scan.{ended}
-use borrow.Author.Rules.{rules}
 use Rattle.logs.proofs.past.ended.Goals as goal
 
 pub overflow_add-result : goal.overflow_add-result

@@ -13,7 +13,6 @@ use Rattle.logs.specs.Table.{kinds, kind_at}
 use Rattle.logs.specs.Scan.{begun, went, bare_long, bare_key, ended, turned}
 use Rattle.logs.proofs.Begun.{one-most}
 use Rattle.logs.proofs.Signs.{Way, bare-some, begin-room-fixed, way-past}
-use borrow.Author.Rules.{rules}
 use Rattle.logs.proofs.past.past.Goals as goal
 use Rattle.logs.proofs.past.past.Goals.{After-sign, Else-sign-3, Then-sign-2, Then-sign-3}
 

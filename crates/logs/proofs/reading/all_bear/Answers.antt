@@ -1,14 +1,9 @@
 -- `logs::reading::all_bear` meets its contract. The invariant: all bear the number where those that are left do. Assumes nothing.
-use Prim.Native.Nat.{◌+◌, ◌*◌, ◌≤◌}
-use mathlib.Core.Path.{◌≡◌, refl}
+use mathlib.Core.Path.{refl}
 use native.Mathlib.Omega.{arith}
-use lib.ListN.{length, drop}
 use Rattle.logs.specs.Record.{length_of}
 use Rattle.logs.specs.Table.{kinds, kind_at}
-use Rattle.logs.specs.Log.{all_bear}
-use Rattle.logs.specs.Scan.{images_in}
 use Rattle.logs.proofs.Images.{bear-stop!, bear-more!, bear-end! }
-use borrow.Author.Rules.{rules}
 use Rattle.logs.proofs.reading.all_bear.Goals as goal
 
 pub loop-left-init : goal.loop-left-init

@@ -1,14 +1,9 @@
 -- `logs::reading::all_bear` meets its contract. The invariant: all bear the number where those that are left do. Assumes nothing.
 use Prim.Native.Nat.{◌+◌, ◌*◌, ◌≤◌}
-use mathlib.Core.Path.{◌≡◌, refl}
-use native.Mathlib.Omega.{arith}
+use mathlib.Core.Path.{◌≡◌}
 use lib.ListN.{length, drop}
-use Rattle.logs.specs.Record.{length_of}
-use Rattle.logs.specs.Table.{kinds, kind_at}
 use Rattle.logs.specs.Log.{all_bear}
 use Rattle.logs.specs.Scan.{images_in}
-use Rattle.logs.proofs.Images.{bear-stop!, bear-more!, bear-end! }
-use borrow.Author.Rules.{rules}
 use Rattle.logs.proofs.reading.all_bear.Given as goal
 
 abbrev pub invariant-loop-left : goal.invariant-loop-left

@@ -9,7 +9,6 @@ use Rattle.logs.specs.Record.{length_of}
 use Rattle.logs.specs.Table.{kinds, kind_at}
 use Rattle.logs.specs.Stand.{Whole}
 use Rattle.logs.proofs.Begun.{begin-counts, whole-tidies, begin-bad!, begin-spare!, begin-whole! }
-use borrow.Author.Rules.{rules}
 use Rattle.logs.proofs.reading.is_begin.Goals as goal
 use Rattle.logs.proofs.reading.is_begin.Goals.{After-shared_slice_known-1, Start}
 

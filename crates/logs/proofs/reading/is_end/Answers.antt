@@ -8,7 +8,6 @@ use Rattle.logs.specs.Table.{kinds, kind_at}
 use Rattle.logs.proofs.Stand.{stand-short, stand-rest!, end-long}
 use Rattle.page.specs.Each.{Each}
 use Rattle.logs.specs.Record.{LE, carried}
-use borrow.Author.Rules.{rules}
 use Rattle.logs.proofs.reading.is_end.Goals as goal
 
 pub returns-then-l-at : goal.returns-then-l-at

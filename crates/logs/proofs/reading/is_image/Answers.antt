@@ -6,7 +6,6 @@ use native.Mathlib.Omega.{arith}
 use Rattle.logs.specs.Record.{length_of}
 use Rattle.logs.specs.Table.{kinds, kind_at}
 use Rattle.logs.proofs.Images.{image-short, image-low, image-high, image-form, image-rest}
-use borrow.Author.Rules.{rules}
 use Rattle.logs.proofs.reading.is_image.Goals as goal
 
 pub returns-then-m-long : goal.returns-then-m-long

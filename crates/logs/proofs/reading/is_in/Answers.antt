@@ -1,12 +1,9 @@
 -- `logs::reading::is_in` meets its contract. Assumes nothing.
-use Prim.Native.Nat.{◌-◌, ◌≤◌}
+use Prim.Native.Nat.{◌≤◌}
 use native.Mathlib.Omega.{arith}
-use lib.ListN.{length}
-use mathlib.Core.Path.{◌∙◌}
 use Rattle.logs.specs.Record.{length_of}
 use Rattle.logs.specs.Table.{kinds, kind_at}
 use Rattle.logs.proofs.Stand.{in-short, in-rest! }
-use borrow.Author.Rules.{rules}
 use Rattle.logs.proofs.reading.is_in.Goals as goal
 
 pub returns-then-l-at : goal.returns-then-l-at

@@ -5,7 +5,6 @@ use lib.ListN.{length}
 use Rattle.logs.specs.Record.{length_of}
 use Rattle.logs.specs.Table.{kinds, kind_at}
 use Rattle.logs.proofs.Rowed.{out-short!, out-few!, out-many!, out-long!, out-rows!, out-whole! }
-use borrow.Author.Rules.{rules}
 use Rattle.logs.proofs.reading.is_out.Goals as goal
 
 pub returns-then-m-fixed : goal.returns-then-m-fixed

@@ -12,7 +12,6 @@ use Rattle.logs.specs.Table.{kinds, kind_at}
 use Rattle.logs.specs.Stand.{Whole}
 use Rattle.logs.proofs.Begun.{begin-counts, whole-saves, save-cut!, begin-bad!, begin-spare!, begin-whole! }
 use Rattle.logs.proofs.Typed.{save-begin! }
-use borrow.Author.Rules.{rules}
 use Rattle.logs.proofs.reading.is_save.Goals as goal
 use Rattle.logs.proofs.reading.is_save.Goals.{After-save_ok, After-shared_slice_known-1, Else-m-size_of}
 

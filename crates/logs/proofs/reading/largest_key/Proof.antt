@@ -1,5 +1,4 @@
 -- `logs::reading::largest_key` meets its contract: the key of the last row, if it is larger. Assumes nothing.
-use native.Mathlib.Omega.{arith}
 use Rattle.logs.proofs.Rowed.{largest-key! }
 use borrow.Author.Rules.{rules}
 use Rattle.logs.proofs.reading.largest_key.Statement.{statement}

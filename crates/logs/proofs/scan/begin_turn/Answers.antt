@@ -6,7 +6,6 @@ use native.Mathlib.Omega.{arith}
 use Rattle.field.proofs.Test.{pick-false}
 use Rattle.logs.specs.Record.{length_of}
 use Rattle.logs.proofs.Ways.{lost-pick, on-pick, begin-last}
-use borrow.Author.Rules.{rules}
 use Rattle.logs.proofs.scan.begin_turn.Goals as goal
 
 pub returns-then-w-eq4294967295 : goal.returns-then-w-eq4294967295

@@ -5,7 +5,6 @@ use Prim.Native.Nat.{◌+◌, ◌<◌}
 use native.Mathlib.Omega.{arith}
 use Rattle.logs.specs.Scan.{stepped}
 use Rattle.logs.proofs.Ways.{lost-pick, on-pick, end-room}
-use borrow.Author.Rules.{rules}
 use Rattle.logs.proofs.scan.end_turn.Goals as goal
 
 pub returns-then-not-is_end : goal.returns-then-not-is_end

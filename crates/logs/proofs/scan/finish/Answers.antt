@@ -2,7 +2,6 @@
 use mathlib.Core.Bool.{not}
 use mathlib.Core.Path.{ap}
 use Rattle.logs.proofs.Pass.{finish_off, finish-bad, finish-on}
-use borrow.Author.Rules.{rules}
 use Rattle.logs.proofs.scan.finish.Goals as goal
 
 pub returns-then-not-w : goal.returns-then-not-w

@@ -10,7 +10,6 @@ use Rattle.logs.specs.Stand.{stands_image}
 use Rattle.logs.specs.Scan.{images_on}
 use Rattle.logs.proofs.Images.{image-room}
 use Rattle.logs.proofs.Ways.{lost-pick, on-pick}
-use borrow.Author.Rules.{rules}
 use Rattle.logs.proofs.scan.image_turn.Goals as goal
 use Rattle.logs.proofs.scan.image_turn.Goals.{After-is_image}
 

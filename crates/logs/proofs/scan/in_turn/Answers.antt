@@ -6,7 +6,6 @@ use native.Mathlib.Omega.{arith}
 use Rattle.logs.specs.Scan.{stepped}
 use Rattle.logs.specs.Source.{source_rows}
 use Rattle.logs.proofs.Ways.{lost-pick, on-pick, in-room}
-use borrow.Author.Rules.{rules}
 use Rattle.logs.proofs.scan.in_turn.Goals as goal
 
 pub returns-then-not-is_in : goal.returns-then-not-is_in

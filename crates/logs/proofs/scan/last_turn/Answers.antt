@@ -8,7 +8,6 @@ use borrow.Author.Rules.{part_to_end}
 use Rattle.logs.specs.Record.{length_of}
 use Rattle.logs.specs.Table.{kinds, kind_at}
 use Rattle.logs.proofs.Images.{last_none, last-other, last-lost, last_on, last-room}
-use borrow.Author.Rules.{rules}
 use Rattle.logs.proofs.scan.last_turn.Goals as goal
 use Rattle.logs.proofs.scan.last_turn.Goals.{After-all_bear}
 

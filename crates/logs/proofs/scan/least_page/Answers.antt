@@ -3,7 +3,6 @@ use native.Mathlib.Omega.{arith}
 use Rattle.logs.specs.Record.{length_of}
 use Rattle.logs.specs.Table.{kinds, kind_at}
 use Rattle.logs.proofs.Images.{least-none, least-some}
-use borrow.Author.Rules.{rules}
 use Rattle.logs.proofs.scan.least_page.Goals as goal
 
 pub returns-then-w-eq0 : goal.returns-then-w-eq0

@@ -3,7 +3,6 @@ use mathlib.Core.Bool.{not}
 use mathlib.Core.Path.{ap}
 use Rattle.logs.specs.Scan.{stepped}
 use Rattle.logs.proofs.Ways.{lost-pick, on-pick, out-room, out-rows}
-use borrow.Author.Rules.{rules}
 use Rattle.logs.proofs.scan.out_turn.Goals as goal
 
 pub returns-then-not-is_out : goal.returns-then-not-is_out

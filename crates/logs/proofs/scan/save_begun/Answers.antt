@@ -7,7 +7,6 @@ use Rattle.field.proofs.Test.{pick_true}
 use Rattle.logs.specs.Log.{saves_at}
 use Rattle.logs.proofs.Signs.{begin-room-fixed}
 use Rattle.logs.proofs.Ways.{lost-pick, on-pick, begin-room, begin-last}
-use borrow.Author.Rules.{rules}
 use Rattle.logs.proofs.scan.save_begun.Goals as goal
 use Rattle.logs.proofs.scan.save_begun.Goals.{Else-not-is_save}
 

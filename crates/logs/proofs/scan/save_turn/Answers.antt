@@ -6,7 +6,6 @@ use lib.Seq.{get_or-drop}
 use Rattle.logs.specs.Record.{length_of}
 use Rattle.logs.specs.Table.{kinds, kind_at}
 use Rattle.logs.proofs.Images.{save-short, save-image, save-last}
-use borrow.Author.Rules.{rules}
 use Rattle.logs.proofs.scan.save_turn.Goals as goal
 
 pub overflow_sub-l : goal.overflow_sub-l

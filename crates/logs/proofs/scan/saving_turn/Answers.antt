@@ -2,13 +2,12 @@
 use native.Mathlib.Omega.{arith}
 use mathlib.Core.Path.{◌≡◌, refl, sym}
 use mathlib.Core.Bool.{true}
-use lib.ListN.{length, drop, length-drop}
+use lib.ListN.{drop, length-drop}
 use borrow.Author.Tests.{not-true, not-false}
 use borrow.Author.Rules.{part_to_end}
 use Rattle.logs.specs.Log.{saves_at}
 use Rattle.logs.proofs.Ways.{turned-full, begin-turned, save-turned}
 use Rattle.logs.proofs.Tidies.{saving-open, saving-begun}
-use borrow.Author.Rules.{rules}
 use Rattle.logs.proofs.scan.saving_turn.Goals as goal
 use Rattle.logs.proofs.scan.saving_turn.Goals.{Else-not-w}
 

@@ -1,18 +1,13 @@
 -- `logs::scan::scan_log` meets its contract. The invariant: the numbers stand for a state of the log, and the whole's answer is that of what is
 -- left; in the inner loop also that no put or delete is open, and that something was read unless it has just begun. Assumes nothing.
 use Prim.Native.Nat.{ℕ, ◌<◌}
-use native.Mathlib.Omega.{arith}
-use mathlib.Core.Path.{◌≡◌, refl, sym, ◌∙◌, subst}
-use mathlib.Core.Logic.{◌⊎◌, inl, inr, ⊎_elim}
-use mathlib.Core.Bool.{true, false, false≢true}
+use mathlib.Core.Path.{◌≡◌}
+use mathlib.Core.Logic.{◌⊎◌}
 use mathlib.Core.List.{List}
-use Rattle.field.specs.Bytes.{Bytes}
-use Rattle.logs.specs.Scan.{saving_on, live, tidies_on}
 use Rattle.logs.specs.declared.scan.Walk.{Walk}
 use Rattle.logs.specs.declared.scan.Mark.{Mark}
-use Rattle.logs.proofs.Pass.{Pass, to_read, pass-start, pass-ready, pass-turn, pass-less, pass-inside, pass-end}
-use Rattle.logs.proofs.Tidies.{Plain, plain_of, plain_turn, tidies-on, tidies-some}
-use borrow.Author.Rules.{rules}
+use Rattle.logs.proofs.Pass.{Pass, to_read}
+use Rattle.logs.proofs.Tidies.{Plain}
 use Rattle.logs.proofs.scan.scan_log.Given as goal
 
 -- from the numbers w₀ on, with units that tidy

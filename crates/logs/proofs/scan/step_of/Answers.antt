@@ -2,7 +2,6 @@
 use mathlib.Core.Path.{refl, sym, ◌∙◌}
 use borrow.Author.Tests.{eqb-true}
 use Rattle.logs.proofs.Placed.{step-compact! }
-use borrow.Author.Rules.{rules}
 use Rattle.logs.proofs.scan.step_of.Goals as goal
 
 pub compact_step-requires : goal.compact_step-requires

@@ -1,6 +1,5 @@
 -- `logs::scan::step_turn` meets its contract: by the kind of the step. Assumes nothing.
 use Rattle.logs.proofs.Ways.{step-out!, step-in!, step-point!, step-close! }
-use borrow.Author.Rules.{rules}
 use Rattle.logs.proofs.scan.step_turn.Goals as goal
 
 pub returns-in-Out : goal.returns-in-Out

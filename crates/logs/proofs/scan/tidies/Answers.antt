@@ -2,13 +2,12 @@
 use Prim.Native.Nat.{◌≤◌, ◌<◌}
 use native.Mathlib.Omega.{arith}
 use mathlib.Core.Path.{◌≡◌, sym, ap, ◌∙◌}
-use mathlib.Core.Bool.{Bool, true, not}
+use mathlib.Core.Bool.{true, not}
 use lib.ListN.{length, drop, length-drop}
-use borrow.Author.Tests.{le-leb, lt-leb, not-true, not-false}
+use borrow.Author.Tests.{le-leb, lt-leb}
 use borrow.Author.Rules.{part_to_end}
 use Rattle.field.proofs.Test.{both_true, both_false, pick_true, pick-false}
 use Rattle.logs.specs.Scan.{live, tidies_on}
-use borrow.Author.Rules.{rules}
 use Rattle.logs.proofs.scan.tidies.Goals as goal
 use Rattle.logs.proofs.scan.tidies.Goals.{Else-not-live}
 

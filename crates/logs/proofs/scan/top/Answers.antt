@@ -5,7 +5,6 @@ use Rattle.logs.specs.Record.{length_of}
 use Rattle.logs.specs.Table.{kinds, kind_at}
 use mathlib.Core.Path.{◌∙◌, ap}
 use Rattle.logs.proofs.Pass.{top-short, top-lost!, top-on, shown-first}
-use borrow.Author.Rules.{rules}
 use Rattle.logs.proofs.scan.top.Goals as goal
 
 pub returns-then-l-long : goal.returns-then-l-long

@@ -10,7 +10,6 @@ use borrow.Author.Rules.{part_to_end}
 use Rattle.logs.specs.Log.{saves_at}
 use Rattle.logs.proofs.Ways.{turned-full, begin-turned, step-turned}
 use Rattle.logs.proofs.Tidies.{saving-open, saving-shut}
-use borrow.Author.Rules.{rules}
 use Rattle.logs.proofs.scan.turn.Goals as goal
 use Rattle.logs.proofs.scan.turn.Goals.{Else-not-w, Then-not-w}
 

@@ -1,6 +1,5 @@
 -- `logs::source::source_at` meets its contract. Assumes nothing.
 use native.Mathlib.Omega.{arith}
-use borrow.Author.Rules.{rules}
 use borrow.Author.Tests.{eq-eqb, ne_eqb}
 use Rattle.field.specs.Test.{pick}
 use Rattle.logs.specs.Record.{length_of}

@@ -2,7 +2,6 @@
 use native.Mathlib.Omega.{arith}
 use Rattle.logs.specs.Steps.{step_of}
 use Rattle.logs.proofs.Placed.{Compacts, is-compact, gathered!, replaced!, removed!, closed! }
-use borrow.Author.Rules.{rules}
 use Rattle.logs.proofs.steps.compact_step.Goals as goal
 use Rattle.logs.proofs.steps.compact_step.Goals.{After-skipped-skip}
 

@@ -2,7 +2,6 @@
 use mathlib.Core.Path.{◌∙◌}
 use borrow.Author.Tests.{ne_eqb}
 use Rattle.logs.proofs.Placed.{step-compact! }
-use borrow.Author.Rules.{rules}
 use Rattle.logs.proofs.steps.step_at.Goals as goal
 
 pub returns-then-byte_at-eq1 : goal.returns-then-byte_at-eq1

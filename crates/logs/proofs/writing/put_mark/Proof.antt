@@ -1,6 +1,5 @@
 -- `logs::writing::put_mark` meets its contract. Assumes nothing.
 use native.Mathlib.Omega.{arith}
-use mathlib.Core.Path.{◌∙◌}
 use lib.ListN.{length-set}
 use Rattle.field.proofs.Number.{set2}
 use borrow.Author.Rules.{rules}

@@ -1,6 +1,5 @@
 -- `logs::writing::put_start` meets its contract. Assumes nothing.
 use Rattle.logs.proofs.Puts.{start-written}
-use borrow.Author.Rules.{rules}
 use Rattle.logs.proofs.writing.put_start.Goals as goal
 
 pub returns : goal.returns

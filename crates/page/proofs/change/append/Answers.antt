@@ -1,7 +1,6 @@
 -- `page::change::append` meets its contract: the records stand behind those that were there. Assumes nothing.
 use native.Mathlib.Omega.{arith}
 use Rattle.page.proofs.Changes.{pick_takes, appended-is}
-use borrow.Author.Rules.{rules}
 use Rattle.page.proofs.change.append.Goals as goal
 
 pub count-old-requires : goal.count-old-requires

@@ -1,7 +1,6 @@
 -- `page::change::make_empty` meets its contract: a header and a body of zeros are the empty page. Assumes nothing.
 use native.Mathlib.Omega.{arith}
 use Rattle.page.proofs.Changes.{leaf-takes, emptied-is}
-use borrow.Author.Rules.{rules}
 use Rattle.page.proofs.change.make_empty.Goals as goal
 
 pub set_head-requires : goal.set_head-requires

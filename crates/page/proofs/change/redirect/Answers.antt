@@ -2,7 +2,6 @@
 use native.Mathlib.Omega.{arith}
 use Rattle.page.proofs.Region.{base-whole}
 use Rattle.page.proofs.Changes.{base-room, redirected-is}
-use borrow.Author.Rules.{rules}
 use Rattle.page.proofs.change.redirect.Goals as goal
 
 pub count-rows-requires : goal.count-rows-requires

@@ -2,7 +2,6 @@
 use native.Mathlib.Omega.{arith}
 use Rattle.page.proofs.Region.{base-whole}
 use Rattle.page.proofs.Changes.{base-room, removed-is}
-use borrow.Author.Rules.{rules}
 use Rattle.page.proofs.change.remove.Goals as goal
 
 pub count-rows-requires : goal.count-rows-requires

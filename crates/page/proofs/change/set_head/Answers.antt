@@ -3,7 +3,6 @@ use native.Mathlib.Omega.{arith}
 use mathlib.Core.Path.{◌∙◌}
 use lib.ListN.{length-set}
 use Rattle.field.proofs.Part.{set-put}
-use borrow.Author.Rules.{rules}
 use Rattle.page.proofs.change.set_head.Goals as goal
 
 pub put2-requires : goal.put2-requires

@@ -1,12 +1,9 @@
 -- `page::form::all_formed` meets its contract. The invariant: all pages are in form where those from page p on are. Assumes nothing.
 use Prim.Native.Nat.{◌≤◌, ◌-◌, ◌*◌}
 use mathlib.Core.Path.{◌≡◌}
-use native.Mathlib.Omega.{arith}
-use borrow.Author.Rules.{rules}
 use lib.ListN.{drop}
 use Rattle.page.specs.Page.{rows_of}
 use Rattle.page.specs.Pages.{pages, all_formed}
-use Rattle.page.proofs.Tests.{front-stop!, front-more, formed-stop!, formed-more!, formed-end! }
 use Rattle.page.proofs.form.all_formed.Given as goal
 
 abbrev pub invariant-loop-p : goal.invariant-loop-p

@@ -1,6 +1,5 @@
 -- `page::form::below_root` meets its contract. Assumes nothing.
 use Rattle.page.proofs.Tests.{below-kind!, below-empty! }
-use borrow.Author.Rules.{rules}
 use Rattle.page.proofs.form.below_root.Goals as goal
 
 pub returns-then-of_place : goal.returns-then-of_place

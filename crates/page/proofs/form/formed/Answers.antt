@@ -1,7 +1,5 @@
 -- `page::form::formed` meets its contract. Assumes nothing.
 use Rattle.page.proofs.Tests.{formed-root! }
-use native.Mathlib.Omega.{arith}
-use borrow.Author.Rules.{rules}
 use Rattle.page.proofs.form.formed.Goals as goal
 
 pub returns-then-p-eq0 : goal.returns-then-p-eq0

@@ -4,7 +4,6 @@ use mathlib.Core.Path.{ap}
 use native.Mathlib.Omega.{arith}
 use Rattle.page.specs.Page.{first_leaf, last_leaf, is_base}
 use Rattle.page.proofs.Tests.{head-whole, head-most, points-head!, points-body! }
-use borrow.Author.Rules.{rules}
 use Rattle.page.proofs.form.is_base.Goals as goal
 
 pub returns-then-not-head_ok : goal.returns-then-not-head_ok

@@ -4,7 +4,6 @@ use mathlib.Core.Path.{ap}
 use native.Mathlib.Omega.{arith}
 use Rattle.page.specs.Page.{is_empty}
 use Rattle.page.proofs.Tests.{head-whole, head-most, kind-head!, kind-body! }
-use borrow.Author.Rules.{rules}
 use Rattle.page.proofs.form.is_empty.Goals as goal
 
 pub returns-then-not-head_ok : goal.returns-then-not-head_ok

@@ -3,7 +3,6 @@ use mathlib.Core.Bool.{not}
 use mathlib.Core.Path.{ap}
 use Rattle.page.specs.Page.{is_leaf}
 use Rattle.page.proofs.Tests.{head-whole, head-most, kind-head!, kind-body! }
-use borrow.Author.Rules.{rules}
 use Rattle.page.proofs.form.is_leaf.Goals as goal
 
 pub returns-then-not-head_ok : goal.returns-then-not-head_ok

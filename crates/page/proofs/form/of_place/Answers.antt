@@ -1,7 +1,5 @@
 -- `page::form::of_place` meets its contract. Assumes nothing.
 use Rattle.page.proofs.Tests.{place-base!, place-leaf! }
-use borrow.Author.Rules.{rules}
-use native.Mathlib.Omega.{arith}
 use Rattle.page.proofs.form.of_place.Goals as goal
 
 pub returns-then-p : goal.returns-then-p

@@ -1,6 +1,5 @@
 -- `page::image::with_entry` meets its contract: an entry is one row of 8 bytes. Assumes nothing.
 use Rattle.page.proofs.Images.{one-row}
-use borrow.Author.Rules.{rules}
 use Rattle.page.proofs.image.with_entry.Goals as goal
 
 pub returns : goal.returns

@@ -1,6 +1,5 @@
 -- `page::place::append_at` meets its contract: the records are appended to the page that is lent. Assumes nothing.
 use Rattle.page.proofs.Pages.{lent-page, back-kept}
-use borrow.Author.Rules.{rules}
 use Rattle.page.proofs.place.append_at.Goals as goal
 
 pub append-requires : goal.append-requires

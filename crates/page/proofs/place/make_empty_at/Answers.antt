@@ -1,6 +1,5 @@
 -- `page::place::make_empty_at` meets its contract: the page that is lent is made empty. Assumes nothing.
 use Rattle.page.proofs.Pages.{lent-page, back-kept}
-use borrow.Author.Rules.{rules}
 use Rattle.page.proofs.place.make_empty_at.Goals as goal
 
 pub make_empty-requires : goal.make_empty-requires

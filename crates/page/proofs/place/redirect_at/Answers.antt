@@ -1,6 +1,5 @@
 -- `page::place::redirect_at` meets its contract: the entry of the page that is lent is pointed elsewhere. Assumes nothing.
 use Rattle.page.proofs.Pages.{lent-page, back-kept}
-use borrow.Author.Rules.{rules}
 use Rattle.page.proofs.place.redirect_at.Goals as goal
 
 pub redirect-requires : goal.redirect-requires

@@ -1,6 +1,5 @@
 -- `page::place::remove_at` meets its contract: the entry of the page that is lent is removed. Assumes nothing.
 use Rattle.page.proofs.Pages.{lent-page, back-kept}
-use borrow.Author.Rules.{rules}
 use Rattle.page.proofs.place.remove_at.Goals as goal
 
 pub remove-requires : goal.remove-requires

@@ -1,6 +1,5 @@
 -- `page::place::stamp_at` meets its contract: the number is written in the page that is lent. Assumes nothing.
 use Rattle.page.proofs.Pages.{lent-page, back-kept}
-use borrow.Author.Rules.{rules}
 use Rattle.page.proofs.place.stamp_at.Goals as goal
 
 pub returns : goal.returns

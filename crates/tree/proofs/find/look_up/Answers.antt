@@ -1,7 +1,6 @@
 -- `tree::find::look_up` meets its contract. Assumes nothing.
 use Rattle.tree.proofs.Descent.{base-small, leaf-small, root-reply!, root-bytes!, base-reply!, base-bytes!, found-reply!, found-bytes! }
 use native.Mathlib.Omega.{arith}
-use borrow.Author.Rules.{rules}
 use Rattle.tree.proofs.find.look_up.Goals as goal
 
 pub down-requires-in-To : goal.down-requires-in-To

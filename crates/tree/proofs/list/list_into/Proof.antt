@@ -1,7 +1,7 @@
 -- `tree::list::list_into` meets its contract. Assumes nothing.
 use Prim.Native.Nat.{◌≤◌}
 use mathlib.Core.Path.{◌≡◌}
-use mathlib.Core.Bool.{true, false}
+use mathlib.Core.Bool.{false}
 use lib.ListN.{length}
 use Rattle.tree.specs.Answer.{between, in_bounds}
 use Rattle.tree.specs.Reader.{to_come, On, Stands}

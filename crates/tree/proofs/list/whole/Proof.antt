@@ -1,6 +1,5 @@
 -- `tree::list::whole` meets its contract. Assumes nothing.
 use Rattle.tree.proofs.Listing.{whole-less!, whole-rest! }
-use native.Mathlib.Omega.{arith}
 use borrow.Author.Rules.{rules}
 use Rattle.tree.proofs.list.whole.Statement.{statement}
 use Rattle.tree.proofs.list.whole.Tie as tie

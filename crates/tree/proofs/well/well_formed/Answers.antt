@@ -4,7 +4,6 @@ use mathlib.Core.Path.{ap}
 use native.Mathlib.Omega.{arith}
 use Rattle.field.specs.Bytes.{Bytes}
 use Rattle.tree.proofs.Chain.{well-once!, well-start!, well-head!, well-kept, well-level, entries_over, entries_below, root-room}
-use borrow.Author.Rules.{rules}
 use Rattle.tree.proofs.well.well_formed.Goals as goal
 
 pub returns-then-not-pointed_once : goal.returns-then-not-pointed_once

@@ -2,27 +2,33 @@
 use crate::input::Three;
 use crate::state::{PAGES, State};
 use crate::{input, output, state};
+use std::io;
+use std::io::{Read, Write};
 
 // Reads the fills and how many bytes of records there are: at most 16,384.
 pub fn build(
+    from: &mut impl Read,
+    to: &mut impl Write,
     at: State,
     work: &mut [u8],
     store: &mut [u8],
     log: &mut [u8],
     room: &mut [u8],
-) -> State {
-    let Three::Are(f, g, length) = input::next_three() else {
-        return output::bad(at);
+) -> io::Result<State> {
+    let Three::Are(f, g, length) = input::next_three(from)? else {
+        return output::bad(to, at);
     };
     if length as usize > PAGES {
-        return output::bad(at);
+        return output::bad(to, at);
     }
     let n = state::least(length as usize, room);
-    build_from(at, work, store, log, &mut room[..n], f, g)
+    build_from(from, to, at, work, store, log, &mut room[..n], f, g)
 }
 
 // Fills the room with the records, which stand next in the script.
 fn build_from(
+    from: &mut impl Read,
+    to: &mut impl Write,
     at: State,
     work: &mut [u8],
     store: &mut [u8],
@@ -30,15 +36,16 @@ fn build_from(
     room: &mut [u8],
     f: u32,
     g: u32,
-) -> State {
-    if !input::next_bytes(room) {
-        return output::bad(at);
+) -> io::Result<State> {
+    if !input::next_bytes(from, room)? {
+        return output::bad(to, at);
     }
-    build_of(at, work, store, log, room, f, g)
+    build_of(to, at, work, store, log, room, f, g)
 }
 
 // Makes the call.
 fn build_of(
+    to: &mut impl Write,
     at: State,
     work: &mut [u8],
     store: &mut [u8],
@@ -46,7 +53,7 @@ fn build_of(
     records: &[u8],
     f: u32,
     g: u32,
-) -> State {
+) -> io::Result<State> {
     let lent = at.lent;
     let w = state::least(lent.work, work);
     let s = state::least(lent.store, store);
@@ -61,5 +68,5 @@ fn build_of(
         f,
         g,
     );
-    output::replied(at, a)
+    output::replied(to, at, a)
 }

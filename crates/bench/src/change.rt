@@ -2,69 +2,98 @@
 use crate::input::{Byte, Number};
 use crate::state::State;
 use crate::{input, output, state};
+use std::io;
+use std::io::{Read, Write};
 
 // Carries out one of these commands.
-pub fn turn(at: State, letter: u8, work: &mut [u8], store: &mut [u8], log: &mut [u8]) -> State {
+pub fn turn(
+    from: &mut impl Read,
+    to: &mut impl Write,
+    at: State,
+    letter: u8,
+    work: &mut [u8],
+    store: &mut [u8],
+    log: &mut [u8],
+) -> io::Result<State> {
     match letter {
-        b'R' => recover(at, work, store, log),
-        b'C' => begin_compact(at, work, log),
-        b'O' => begin_order(at, work, log),
-        b'S' => step(at, work, log),
-        b'P' => flush(at, work, store, log),
-        b'F' => force(at, log),
-        b'K' => checkpoint(at, work, store, log),
-        _ => output::bad(at),
+        b'R' => recover(to, at, work, store, log),
+        b'C' => begin_compact(from, to, at, work, log),
+        b'O' => begin_order(to, at, work, log),
+        b'S' => step(to, at, work, log),
+        b'P' => flush(from, to, at, work, store, log),
+        b'F' => force(to, at, log),
+        b'K' => checkpoint(from, to, at, work, store, log),
+        _ => output::bad(to, at),
     }
 }
 
 // Recover.
-fn recover(at: State, work: &mut [u8], store: &[u8], log: &mut [u8]) -> State {
+fn recover(
+    to: &mut impl Write,
+    at: State,
+    work: &mut [u8],
+    store: &[u8],
+    log: &mut [u8],
+) -> io::Result<State> {
     let lent = at.lent;
     let w = state::least(lent.work, work);
     let s = state::least(lent.store, store);
     let l = state::least(lent.log, log);
     let numbers = at.numbers;
     let a = handed::recover(numbers, &mut work[..w], &store[..s], &mut log[..l]);
-    output::recovered(at, a)
+    output::recovered(to, at, a)
 }
 
 // Begin compact, with a fill.
-fn begin_compact(at: State, work: &[u8], log: &mut [u8]) -> State {
-    let Number::Is(fill) = input::next_number() else {
-        return output::bad(at);
+fn begin_compact(
+    from: &mut impl Read,
+    to: &mut impl Write,
+    at: State,
+    work: &[u8],
+    log: &mut [u8],
+) -> io::Result<State> {
+    let Number::Is(fill) = input::next_number(from)? else {
+        return output::bad(to, at);
     };
     let lent = at.lent;
     let w = state::least(lent.work, work);
     let l = state::least(lent.log, log);
     let numbers = at.numbers;
     let a = handed::begin_compact(numbers, &work[..w], &mut log[..l], fill);
-    output::replied(at, a)
+    output::replied(to, at, a)
 }
 
 // Begin order.
-fn begin_order(at: State, work: &[u8], log: &mut [u8]) -> State {
+fn begin_order(to: &mut impl Write, at: State, work: &[u8], log: &mut [u8]) -> io::Result<State> {
     let lent = at.lent;
     let w = state::least(lent.work, work);
     let l = state::least(lent.log, log);
     let numbers = at.numbers;
     let a = handed::begin_order(numbers, &work[..w], &mut log[..l]);
-    output::replied(at, a)
+    output::replied(to, at, a)
 }
 
 // Step.
-fn step(at: State, work: &mut [u8], log: &mut [u8]) -> State {
+fn step(to: &mut impl Write, at: State, work: &mut [u8], log: &mut [u8]) -> io::Result<State> {
     let lent = at.lent;
     let w = state::least(lent.work, work);
     let l = state::least(lent.log, log);
     let numbers = at.numbers;
     let a = handed::step(numbers, &mut work[..w], &mut log[..l]);
-    output::replied(at, a)
+    output::replied(to, at, a)
 }
 
 // Flush, of a page.
-fn flush(at: State, work: &[u8], store: &mut [u8], log: &[u8]) -> State {
-    let Number::Is(p) = input::next_number() else {
-        return output::bad(at);
+fn flush(
+    from: &mut impl Read,
+    to: &mut impl Write,
+    at: State,
+    work: &[u8],
+    store: &mut [u8],
+    log: &[u8],
+) -> io::Result<State> {
+    let Number::Is(p) = input::next_number(from)? else {
+        return output::bad(to, at);
     };
     let lent = at.lent;
     let w = state::least(lent.work, work);
@@ -72,25 +101,32 @@ fn flush(at: State, work: &[u8], store: &mut [u8], log: &[u8]) -> State {
     let l = state::least(lent.log, log);
     let numbers = at.numbers;
     let a = handed::flush(numbers, &work[..w], &mut store[..s], &log[..l], p);
-    output::replied(at, a)
+    output::replied(to, at, a)
 }
 
 // Force.
-fn force(at: State, log: &[u8]) -> State {
+fn force(to: &mut impl Write, at: State, log: &[u8]) -> io::Result<State> {
     let lent = at.lent;
     let l = state::least(lent.log, log);
     let numbers = at.numbers;
     let a = handed::force(numbers, &log[..l]);
-    output::replied(at, a)
+    output::replied(to, at, a)
 }
 
 // Checkpoint; 1 clears LK and 0 keeps it.
-fn checkpoint(at: State, work: &[u8], store: &[u8], log: &mut [u8]) -> State {
-    let Byte::Is(clear) = input::next_byte() else {
-        return output::bad(at);
+fn checkpoint(
+    from: &mut impl Read,
+    to: &mut impl Write,
+    at: State,
+    work: &[u8],
+    store: &[u8],
+    log: &mut [u8],
+) -> io::Result<State> {
+    let Byte::Is(clear) = input::next_byte(from)? else {
+        return output::bad(to, at);
     };
     if clear > 1 {
-        return output::bad(at);
+        return output::bad(to, at);
     }
     let lent = at.lent;
     let w = state::least(lent.work, work);
@@ -98,5 +134,5 @@ fn checkpoint(at: State, work: &[u8], store: &[u8], log: &mut [u8]) -> State {
     let l = state::least(lent.log, log);
     let numbers = at.numbers;
     let a = handed::checkpoint(numbers, &work[..w], &store[..s], &mut log[..l], clear == 1);
-    output::replied(at, a)
+    output::replied(to, at, a)
 }

@@ -1,4 +1,8 @@
-// Reading the script: each function answers what stands next, or that the script is cut short there.
+// Reading the script: each function answers what stands next, or that the script is cut short there. A read that fails is an error.
+ghost use Rattle.std.specs.Io.{ReadsAtMost};
+
+use std::io;
+use std::io::Read;
 
 #[derive(Clone, Copy)]
 pub enum Byte {
@@ -19,38 +23,54 @@ pub enum Three {
 }
 
 // The next byte.
-pub fn next_byte() -> Byte {
+pub fn next_byte(from: &mut impl Read) -> io::Result<Byte> {
     let mut b = [0u8; 1];
-    if io::read_full(libc::STDIN_FILENO, &mut b) < 1 {
-        return Byte::Short;
+    if read_full(from, &mut b)? < 1 {
+        return Ok(Byte::Short);
     }
-    Byte::Is(b[0])
+    Ok(Byte::Is(b[0]))
 }
 
 // The next number, of four bytes.
-pub fn next_number() -> Number {
+pub fn next_number(from: &mut impl Read) -> io::Result<Number> {
     let mut b = [0u8; 4];
-    if io::read_full(libc::STDIN_FILENO, &mut b) < 4 {
-        return Number::Short;
+    if read_full(from, &mut b)? < 4 {
+        return Ok(Number::Short);
     }
-    Number::Is(field::num4(b[0], b[1], b[2], b[3]))
+    Ok(Number::Is(field::num4(b[0], b[1], b[2], b[3])))
 }
 
 // The next three numbers.
-pub fn next_three() -> Three {
-    let Number::Is(x) = next_number() else {
-        return Three::Short;
+pub fn next_three(from: &mut impl Read) -> io::Result<Three> {
+    let Number::Is(x) = next_number(from)? else {
+        return Ok(Three::Short);
     };
-    let Number::Is(y) = next_number() else {
-        return Three::Short;
+    let Number::Is(y) = next_number(from)? else {
+        return Ok(Three::Short);
     };
-    let Number::Is(z) = next_number() else {
-        return Three::Short;
+    let Number::Is(z) = next_number(from)? else {
+        return Ok(Three::Short);
     };
-    Three::Are(x, y, z)
+    Ok(Three::Are(x, y, z))
 }
 
 // Fills the buffer with the next bytes; false where there are fewer.
-pub fn next_bytes(buffer: &mut [u8]) -> bool {
-    io::read_full(libc::STDIN_FILENO, buffer) == buffer.len()
+pub fn next_bytes(from: &mut impl Read, buffer: &mut [u8]) -> io::Result<bool> {
+    let n = read_full(from, buffer)?;
+    Ok(n == buffer.len())
+}
+
+// Reads until the buffer is full or the input ends; how many bytes it put at the buffer's start.
+fn read_full(from: &mut impl Read, buffer: &mut [u8]) -> io::Result<usize>
+    ensures { ReadsAtMost result buffer.new }
+{
+    let mut done = 0;
+    while done < buffer.len() {
+        let n = from.read(&mut buffer[done..])?;
+        if n == 0 {
+            break;
+        }
+        done += n;
+    }
+    Ok(done)
 }

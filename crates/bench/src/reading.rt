@@ -4,81 +4,122 @@ ghost use Rattle.std.specs.Prelude.{◌≡◌, ◌+◌, ◌*◌, ◌≤◌, min,
 use crate::input::{Number, Three};
 use crate::state::{PAGES, State};
 use crate::{input, output, state};
+use std::io;
+use std::io::{Read, Write};
 use tree::walk::Place;
 
 // Writes the buffers at their lent lengths, and the numbers.
-pub fn dump(at: State, work: &[u8], store: &[u8], log: &[u8]) -> State {
+pub fn dump(
+    to: &mut impl Write,
+    at: State,
+    work: &[u8],
+    store: &[u8],
+    log: &[u8],
+) -> io::Result<State> {
     let lent = at.lent;
     let w = state::least(lent.work, work);
     let s = state::least(lent.store, store);
     let l = state::least(lent.log, log);
-    io::write_all(libc::STDOUT_FILENO, &work[..w]);
-    io::write_all(libc::STDOUT_FILENO, &store[..s]);
-    io::write_all(libc::STDOUT_FILENO, &log[..l]);
-    output::numbers(at);
-    at
+    to.write_all(&work[..w])?;
+    to.write_all(&store[..s])?;
+    to.write_all(&log[..l])?;
+    output::numbers(to, at)?;
+    Ok(at)
 }
 
 // Reads the key and makes the call.
-pub fn find(at: State, work: &[u8], log: &[u8]) -> State {
-    let Number::Is(key) = input::next_number() else {
-        return output::bad(at);
+pub fn find(
+    from: &mut impl Read,
+    to: &mut impl Write,
+    at: State,
+    work: &[u8],
+    log: &[u8],
+) -> io::Result<State> {
+    let Number::Is(key) = input::next_number(from)? else {
+        return output::bad(to, at);
     };
     let lent = at.lent;
     let w = state::least(lent.work, work);
     let l = state::least(lent.log, log);
     let numbers = at.numbers;
     let a = handed::find(numbers, &work[..w], &log[..l], key);
-    output::found(at, a)
+    output::found(to, at, a)
 }
 
 // Reads list's bounds and how many bytes of room it has: at most 16,384.
-pub fn list(at: State, work: &[u8], log: &[u8], room: &mut [u8]) -> State {
-    let Three::Are(low, high, length) = input::next_three() else {
-        return output::bad(at);
+pub fn list(
+    from: &mut impl Read,
+    to: &mut impl Write,
+    at: State,
+    work: &[u8],
+    log: &[u8],
+    room: &mut [u8],
+) -> io::Result<State> {
+    let Three::Are(low, high, length) = input::next_three(from)? else {
+        return output::bad(to, at);
     };
     if length as usize > PAGES {
-        return output::bad(at);
+        return output::bad(to, at);
     }
     let n = state::least(length as usize, room);
-    list_into(at, work, log, low, high, &mut room[..n])
+    list_into(to, at, work, log, low, high, &mut room[..n])
 }
 
 // Makes the call into this room.
-fn list_into(at: State, work: &[u8], log: &[u8], low: u32, high: u32, room: &mut [u8]) -> State {
+fn list_into(
+    to: &mut impl Write,
+    at: State,
+    work: &[u8],
+    log: &[u8],
+    low: u32,
+    high: u32,
+    room: &mut [u8],
+) -> io::Result<State> {
     paint(room);
     let lent = at.lent;
     let w = state::least(lent.work, work);
     let l = state::least(lent.log, log);
     let numbers = at.numbers;
     let a = handed::list(numbers, &work[..w], &log[..l], low, high, room);
-    output::listed(at, a, room)
+    output::listed(to, at, a, room)
 }
 
 // Reads the range reader's first key and how many bytes of room its records have: at most 16,384.
-pub fn walk(at: State, work: &[u8], room: &mut [u8]) -> State {
-    let Number::Is(key) = input::next_number() else {
-        return output::bad(at);
+pub fn walk(
+    from: &mut impl Read,
+    to: &mut impl Write,
+    at: State,
+    work: &[u8],
+    room: &mut [u8],
+) -> io::Result<State> {
+    let Number::Is(key) = input::next_number(from)? else {
+        return output::bad(to, at);
     };
-    let Number::Is(length) = input::next_number() else {
-        return output::bad(at);
+    let Number::Is(length) = input::next_number(from)? else {
+        return output::bad(to, at);
     };
     if length as usize > PAGES {
-        return output::bad(at);
+        return output::bad(to, at);
     }
     let n = state::least(length as usize, room);
-    walk_into(at, work, key, &mut room[..n])
+    walk_into(to, at, work, key, &mut room[..n])
 }
 
 // Starts the reader and walks it into this room.
-fn walk_into(at: State, work: &[u8], key: u32, room: &mut [u8]) -> State {
+fn walk_into(
+    to: &mut impl Write,
+    at: State,
+    work: &[u8],
+    key: u32,
+    room: &mut [u8],
+) -> io::Result<State> {
     paint(room);
     let lent = at.lent;
     let w = state::least(lent.work, work);
     let start = range::start_from(&work[..w], key);
     let from = start.at;
     let count = take(&work[..w], from, room);
-    output::walked(at, start.reply, count, room)
+    output::walked(to, at, start.reply, count, room)
 }
 
 // Takes records from this position on while they fit whole; how many.

@@ -2,42 +2,60 @@
 use crate::input::{Number, Three};
 use crate::state::{LOG, Lengths, PAGES, State};
 use crate::{input, output, state};
+use std::io;
+use std::io::{Read, Write};
 use store::Numbers;
 
 // Sets work or store pages.
-pub fn pages(at: State, buffer: &mut [u8]) -> State {
-    set(at, buffer, PAGES)
+pub fn pages(
+    from: &mut impl Read,
+    to: &mut impl Write,
+    at: State,
+    buffer: &mut [u8],
+) -> io::Result<State> {
+    set(from, to, at, buffer, PAGES)
 }
 
 // Sets the log.
-pub fn log(at: State, buffer: &mut [u8]) -> State {
-    set(at, buffer, LOG)
+pub fn log(
+    from: &mut impl Read,
+    to: &mut impl Write,
+    at: State,
+    buffer: &mut [u8],
+) -> io::Result<State> {
+    set(from, to, at, buffer, LOG)
 }
 
 // Sets the first n bytes of a buffer.
-fn set(at: State, buffer: &mut [u8], n: usize) -> State {
+fn set(
+    from: &mut impl Read,
+    to: &mut impl Write,
+    at: State,
+    buffer: &mut [u8],
+    n: usize,
+) -> io::Result<State> {
     let n = state::least(n, buffer);
-    if !input::next_bytes(&mut buffer[..n]) {
-        return output::bad(at);
+    if !input::next_bytes(from, &mut buffer[..n])? {
+        return output::bad(to, at);
     }
-    at
+    Ok(at)
 }
 
 // Sets the numbers.
-pub fn numbers(at: State) -> State {
-    let Number::Is(used) = input::next_number() else {
-        return output::bad(at);
+pub fn numbers(from: &mut impl Read, to: &mut impl Write, at: State) -> io::Result<State> {
+    let Number::Is(used) = input::next_number(from)? else {
+        return output::bad(to, at);
     };
-    let Number::Is(forced) = input::next_number() else {
-        return output::bad(at);
+    let Number::Is(forced) = input::next_number(from)? else {
+        return output::bad(to, at);
     };
-    state::with_numbers(at, Numbers { used, forced })
+    Ok(state::with_numbers(at, Numbers { used, forced }))
 }
 
 // Sets the lengths that the buffers are lent with, each at most one above the right one.
-pub fn lengths(at: State) -> State {
-    let Three::Are(work, store, log) = input::next_three() else {
-        return output::bad(at);
+pub fn lengths(from: &mut impl Read, to: &mut impl Write, at: State) -> io::Result<State> {
+    let Three::Are(work, store, log) = input::next_three(from)? else {
+        return output::bad(to, at);
     };
     let lent = Lengths {
         work: work as usize,
@@ -45,7 +63,7 @@ pub fn lengths(at: State) -> State {
         log: log as usize,
     };
     if lent.work > PAGES + 1 || lent.store > PAGES + 1 || lent.log > LOG + 1 {
-        return output::bad(at);
+        return output::bad(to, at);
     }
-    state::with_lengths(at, lent)
+    Ok(state::with_lengths(at, lent))
 }

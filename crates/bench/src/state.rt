@@ -1,6 +1,6 @@
 // What the bench keeps beside the buffers: the numbers, the lengths that the buffers are lent with, and whether the script goes on.
 ghost use Rattle.std.specs.Prelude.{◌≤◌, length};
-ghost use Rattle.io.specs.Counts.{IsPrefixLen};
+ghost use Rattle.std.specs.Counts.{IsPrefixLen};
 
 use store::Numbers;
 
@@ -18,7 +18,7 @@ pub struct Lengths {
     pub log: usize,
 }
 
-#[derive(Drop)]
+#[derive(Clone, Copy)]
 pub struct State {
     pub numbers: Numbers,
     pub lent: Lengths,

@@ -2,44 +2,64 @@
 // totals, or `refused` and the number of the reply. Input of another length than 24,576 bytes is refused as 1.
 #![tactic(auto)]
 
+ghost use Rattle.std.specs.Io.{ReadsAtMost};
+
 mod text;
 mod walk;
 
+use std::io;
+use std::io::{Read, Write};
 use store::Numbers;
 
 // Recovers into the work pages and prints.
-fn list(work: &mut [u8], store: &[u8], log: &mut [u8]) {
+fn list(to: &mut impl Write, work: &mut [u8], store: &[u8], log: &mut [u8]) -> io::Result<()> {
     let numbers = Numbers { used: 0, forced: 0 };
     let answer = recovering::recover(numbers, work, store, log);
     let recovered = answer.recovered;
     if recovered.reply != 0 {
-        text::refused(recovered.reply);
-        return;
+        return text::refused(to, recovered.reply);
     }
-    text::header();
-    let seen = walk::root(work);
-    text::totals(seen.records);
+    text::header(to)?;
+    let seen = walk::root(to, work)?;
+    text::totals(to, seen.records)
 }
 
 // Whether the input has just as many bytes as the two buffers, which are filled with them.
-fn read(store: &mut [u8], log: &mut [u8]) -> bool {
+fn read(from: &mut impl Read, store: &mut [u8], log: &mut [u8]) -> io::Result<bool> {
     let mut past = [0u8; 1];
-    if io::read_full(libc::STDIN_FILENO, store) < store.len() {
-        return false;
+    if read_full(from, store)? < store.len() {
+        return Ok(false);
     }
-    if io::read_full(libc::STDIN_FILENO, log) < log.len() {
-        return false;
+    if read_full(from, log)? < log.len() {
+        return Ok(false);
     }
-    io::read_full(libc::STDIN_FILENO, &mut past) == 0
+    Ok(read_full(from, &mut past)? == 0)
 }
 
-fn main() {
+// Reads until the buffer is full or the input ends; how many bytes it put at the buffer's start.
+fn read_full(from: &mut impl Read, buffer: &mut [u8]) -> io::Result<usize>
+    ensures { ReadsAtMost result buffer.new }
+{
+    let mut done = 0;
+    while done < buffer.len() {
+        let n = from.read(&mut buffer[done..])?;
+        if n == 0 {
+            break;
+        }
+        done += n;
+    }
+    Ok(done)
+}
+
+fn main(rt: HostRuntime) -> io::Result<()> {
     let mut work = [0u8; 16384];
     let mut store = [0u8; 16384];
     let mut log = [0u8; 8192];
-    if read(&mut store, &mut log) {
-        list(&mut work, &store, &mut log);
+    let mut from = rt.stdin();
+    let mut to = rt.stdout();
+    if read(&mut from, &mut store, &mut log)? {
+        list(&mut to, &mut work, &store, &mut log)
     } else {
-        text::refused(1);
+        text::refused(&mut to, 1)
     }
 }

@@ -1,4 +1,6 @@
-// The lines that are printed.
+// The lines that are printed. A write that fails is an error.
+use std::io;
+use std::io::Write;
 
 // What is printed of a leaf.
 #[derive(Drop)]
@@ -12,37 +14,34 @@ pub struct Line {
     pub number: u32,
 }
 
-pub fn refused(reply: u8) {
-    io::write_all(libc::STDOUT_FILENO, b"refused ");
-    number(reply as u32, b"\n");
+pub fn refused(to: &mut impl Write, reply: u8) -> io::Result<()> {
+    to.write_all(b"refused ")?;
+    number(to, reply as u32, b"\n")
 }
 
-pub fn header() {
-    io::write_all(
-        libc::STDOUT_FILENO,
-        b"leaf page base count first last number\n",
-    );
+pub fn header(to: &mut impl Write) -> io::Result<()> {
+    to.write_all(b"leaf page base count first last number\n")
 }
 
-pub fn leaf(l: Line) {
-    number(l.order, b" ");
-    number(l.page as u32, b" ");
-    number(l.base as u32, b" ");
-    number(l.count as u32, b" ");
-    number(l.first, b" ");
-    number(l.last, b" ");
-    number(l.number, b"\n");
+pub fn leaf(to: &mut impl Write, l: Line) -> io::Result<()> {
+    number(to, l.order, b" ")?;
+    number(to, l.page as u32, b" ")?;
+    number(to, l.base as u32, b" ")?;
+    number(to, l.count as u32, b" ")?;
+    number(to, l.first, b" ")?;
+    number(to, l.last, b" ")?;
+    number(to, l.number, b"\n")
 }
 
 // A tree without records has the root alone.
-pub fn totals(records: u32) {
-    io::write_all(libc::STDOUT_FILENO, b"records ");
-    number(records, b" levels ");
-    number(if records == 0 { 1 } else { 3 }, b"\n");
+pub fn totals(to: &mut impl Write, records: u32) -> io::Result<()> {
+    to.write_all(b"records ")?;
+    number(to, records, b" levels ")?;
+    number(to, if records == 0 { 1 } else { 3 }, b"\n")
 }
 
 // Prints a number and what stands after it.
-fn number(n: u32, after: &[u8]) {
-    io::print_decimal(libc::STDOUT_FILENO, n as u64);
-    io::write_all(libc::STDOUT_FILENO, after);
+fn number(to: &mut impl Write, n: u32, after: &[u8]) -> io::Result<()> {
+    write!(to, "{n}")?;
+    to.write_all(after)
 }

@@ -3,6 +3,8 @@
 use crate::text;
 use crate::text::Line;
 use page::view;
+use std::io;
+use std::io::Write;
 
 // How many leaves and records have been passed, and whether the walk goes on.
 #[derive(Drop)]
@@ -13,7 +15,7 @@ pub struct Seen {
 }
 
 // Prints all leaves.
-pub fn root(work: &[u8]) -> Seen {
+pub fn root(to: &mut impl Write, work: &[u8]) -> io::Result<Seen> {
     let mut seen = Seen {
         leaves: 0,
         records: 0,
@@ -22,44 +24,44 @@ pub fn root(work: &[u8]) -> Seen {
     let n = entries(work, 0);
     let mut i = 0;
     while i < n && seen.on {
-        seen = base(work, entry(work, 0, i), seen);
+        seen = base(to, work, entry(work, 0, i), seen)?;
         i += 1;
     }
-    seen
+    Ok(seen)
 }
 
 // Prints the leaves under base page p.
-fn base(work: &[u8], p: u16, before: Seen) -> Seen {
+fn base(to: &mut impl Write, work: &[u8], p: u16, before: Seen) -> io::Result<Seen> {
     let mut seen = before;
     let n = entries(work, p);
     if n == 0 {
-        return stopped(seen);
+        return Ok(stopped(seen));
     }
     let mut i = 0;
     while i < n && seen.on {
-        seen = leaf(work, p, entry(work, p, i), seen);
+        seen = leaf(to, work, p, entry(work, p, i), seen)?;
         i += 1;
     }
-    seen
+    Ok(seen)
 }
 
 // Prints leaf page p.
-fn leaf(work: &[u8], base: u16, p: u16, seen: Seen) -> Seen {
+fn leaf(to: &mut impl Write, work: &[u8], base: u16, p: u16, seen: Seen) -> io::Result<Seen> {
     let pg = page_of(work, p);
     if pg.len() != 256 {
-        return stopped(seen);
+        return Ok(stopped(seen));
     }
     let n = view::count(pg);
     if n == 0 {
-        return stopped(seen);
+        return Ok(stopped(seen));
     }
     if n > 15 {
-        return stopped(seen);
+        return Ok(stopped(seen));
     }
     let first = view::row_key(pg, 16, 0);
     let last = view::row_key(pg, 16, n as usize - 1);
     let stamp = view::number(pg);
-    text::leaf(Line {
+    let line = Line {
         order: seen.leaves,
         page: p,
         base,
@@ -67,8 +69,9 @@ fn leaf(work: &[u8], base: u16, p: u16, seen: Seen) -> Seen {
         first,
         last,
         number: stamp.0,
-    });
-    passed(seen, n as u32)
+    };
+    text::leaf(to, line)?;
+    Ok(passed(seen, n as u32))
 }
 
 // The entries of page p, at most 30; none where there is no such page.

@@ -11,7 +11,7 @@ use ranging::{Reached, Step};
 use tree::walk::Place;
 
 // The lent work pages, list's reply of them, and the position of the next record.
-#[derive(Drop)]
+#[derive(Clone, Copy)]
 pub struct RangeReader<'a> {
     pub pages: &'a [u8],
     pub reply: u8,

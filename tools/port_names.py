@@ -5,7 +5,7 @@
 2. Words of definitions, lemmas, fields and variables go from lower camel case to snake case, part by part: lengthOf-grown is length_of-grown.
    A part getD (or get_d) is get_or, which is what the function is called now. Types, facts and modules, which begin with a capital, stay; so do names
    of functions of src/, which were in snake case, and text in strings.
-3. must-fail/*.edit, which port.py leaves: the same names, projections written tight, a prime as an apostrophe, clauses without their brackets.
+3. must-fail/*.edit, which port.py leaves: the same names, projections written tight, a prime as an apostrophe. Clauses in them are mended by hand.
 
 4. Lemmas that would now have the name of the definition that they speak of (LEMMAS below) get _lem.
 

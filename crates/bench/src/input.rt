@@ -1,6 +1,5 @@
 // Reading the script: each function answers what stands next, or that the script is cut short there. A read that fails is an error.
-ghost use Rattle.std.specs.Io.{ReadsAtMost};
-
+use intake::read_full;
 use std::io;
 use std::io::Read;
 
@@ -58,19 +57,4 @@ pub fn next_three(from: &mut impl Read) -> io::Result<Three> {
 pub fn next_bytes(from: &mut impl Read, buffer: &mut [u8]) -> io::Result<bool> {
     let n = read_full(from, buffer)?;
     Ok(n == buffer.len())
-}
-
-// Reads until the buffer is full or the input ends; how many bytes it put at the buffer's start.
-fn read_full(from: &mut impl Read, buffer: &mut [u8]) -> io::Result<usize>
-    ensures { ReadsAtMost result buffer.new }
-{
-    let mut done = 0;
-    while done < buffer.len() {
-        let n = from.read(&mut buffer[done..])?;
-        if n == 0 {
-            break;
-        }
-        done += n;
-    }
-    Ok(done)
 }

@@ -2,11 +2,10 @@
 // totals, or `refused` and the number of the reply. Input of another length than 24,576 bytes is refused as 1.
 #![tactic(auto)]
 
-ghost use Rattle.std.specs.Io.{ReadsAtMost};
-
 mod text;
 mod walk;
 
+use intake::read_full;
 use std::io;
 use std::io::{Read, Write};
 use store::Numbers;
@@ -34,21 +33,6 @@ fn read(from: &mut impl Read, store: &mut [u8], log: &mut [u8]) -> io::Result<bo
         return Ok(false);
     }
     Ok(read_full(from, &mut past)? == 0)
-}
-
-// Reads until the buffer is full or the input ends; how many bytes it put at the buffer's start.
-fn read_full(from: &mut impl Read, buffer: &mut [u8]) -> io::Result<usize>
-    ensures { ReadsAtMost result buffer.new }
-{
-    let mut done = 0;
-    while done < buffer.len() {
-        let n = from.read(&mut buffer[done..])?;
-        if n == 0 {
-            break;
-        }
-        done += n;
-    }
-    Ok(done)
 }
 
 fn main(rt: HostRuntime) -> io::Result<()> {

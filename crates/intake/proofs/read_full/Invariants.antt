@@ -1,5 +1,5 @@
 use Rattle.std.proofs.Common.{length, ◌-◌, ◌≤◌}
-use Rattle.listing.proofs.read_full.Given as goal
+use Rattle.intake.proofs.read_full.Given as goal
 
 -- the bytes that have been read lie in the buffer
 abbrev pub invariant-loop-done : goal.invariant-loop-done

@@ -1,138 +1,68 @@
 // The calls that recover, tidy and keep a store: recover, begin compact, begin order, step, flush, force and checkpoint.
-use crate::input::{Byte, Number};
-use crate::state::State;
-use crate::{input, output, state};
-use std::io;
+use crate::input::Stop;
+use crate::state::Bench;
 use std::io::{Read, Write};
 
-// Carries out one of these commands.
-pub fn turn(
-    from: &mut impl Read,
-    to: &mut impl Write,
-    at: State,
-    letter: u8,
-    work: &mut [u8],
-    store: &mut [u8],
-    log: &mut [u8],
-) -> io::Result<State> {
-    match letter {
-        b'R' => recover(to, at, work, store, log),
-        b'C' => begin_compact(from, to, at, work, log),
-        b'O' => begin_order(to, at, work, log),
-        b'S' => step(to, at, work, log),
-        b'P' => flush(from, to, at, work, store, log),
-        b'F' => force(to, at, log),
-        b'K' => checkpoint(from, to, at, work, store, log),
-        _ => output::bad(to, at),
+impl<R: Read, W: Write> Bench<R, W> {
+    // Recover.
+    pub fn recover(&mut self) -> Result<(), Stop> {
+        let a = handed::recover(
+            self.numbers,
+            self.work.lent_mut(),
+            self.store.lent(),
+            self.log.lent_mut(),
+        );
+        self.recovered(a)
     }
-}
 
-// Recover.
-fn recover(
-    to: &mut impl Write,
-    at: State,
-    work: &mut [u8],
-    store: &[u8],
-    log: &mut [u8],
-) -> io::Result<State> {
-    let lent = at.lent;
-    let w = state::least(lent.work, work);
-    let s = state::least(lent.store, store);
-    let l = state::least(lent.log, log);
-    let numbers = at.numbers;
-    let a = handed::recover(numbers, &mut work[..w], &store[..s], &mut log[..l]);
-    output::recovered(to, at, a)
-}
-
-// Begin compact, with a fill.
-fn begin_compact(
-    from: &mut impl Read,
-    to: &mut impl Write,
-    at: State,
-    work: &[u8],
-    log: &mut [u8],
-) -> io::Result<State> {
-    let Number::Is(fill) = input::next_number(from)? else {
-        return output::bad(to, at);
-    };
-    let lent = at.lent;
-    let w = state::least(lent.work, work);
-    let l = state::least(lent.log, log);
-    let numbers = at.numbers;
-    let a = handed::begin_compact(numbers, &work[..w], &mut log[..l], fill);
-    output::replied(to, at, a)
-}
-
-// Begin order.
-fn begin_order(to: &mut impl Write, at: State, work: &[u8], log: &mut [u8]) -> io::Result<State> {
-    let lent = at.lent;
-    let w = state::least(lent.work, work);
-    let l = state::least(lent.log, log);
-    let numbers = at.numbers;
-    let a = handed::begin_order(numbers, &work[..w], &mut log[..l]);
-    output::replied(to, at, a)
-}
-
-// Step.
-fn step(to: &mut impl Write, at: State, work: &mut [u8], log: &mut [u8]) -> io::Result<State> {
-    let lent = at.lent;
-    let w = state::least(lent.work, work);
-    let l = state::least(lent.log, log);
-    let numbers = at.numbers;
-    let a = handed::step(numbers, &mut work[..w], &mut log[..l]);
-    output::replied(to, at, a)
-}
-
-// Flush, of a page.
-fn flush(
-    from: &mut impl Read,
-    to: &mut impl Write,
-    at: State,
-    work: &[u8],
-    store: &mut [u8],
-    log: &[u8],
-) -> io::Result<State> {
-    let Number::Is(p) = input::next_number(from)? else {
-        return output::bad(to, at);
-    };
-    let lent = at.lent;
-    let w = state::least(lent.work, work);
-    let s = state::least(lent.store, store);
-    let l = state::least(lent.log, log);
-    let numbers = at.numbers;
-    let a = handed::flush(numbers, &work[..w], &mut store[..s], &log[..l], p);
-    output::replied(to, at, a)
-}
-
-// Force.
-fn force(to: &mut impl Write, at: State, log: &[u8]) -> io::Result<State> {
-    let lent = at.lent;
-    let l = state::least(lent.log, log);
-    let numbers = at.numbers;
-    let a = handed::force(numbers, &log[..l]);
-    output::replied(to, at, a)
-}
-
-// Checkpoint; 1 clears LK and 0 keeps it.
-fn checkpoint(
-    from: &mut impl Read,
-    to: &mut impl Write,
-    at: State,
-    work: &[u8],
-    store: &[u8],
-    log: &mut [u8],
-) -> io::Result<State> {
-    let Byte::Is(clear) = input::next_byte(from)? else {
-        return output::bad(to, at);
-    };
-    if clear > 1 {
-        return output::bad(to, at);
+    // Begin compact, with a fill.
+    pub fn begin_compact(&mut self) -> Result<(), Stop> {
+        let fill = self.input.number()?;
+        let a = handed::begin_compact(self.numbers, self.work.lent(), self.log.lent_mut(), fill);
+        self.reply(a)
     }
-    let lent = at.lent;
-    let w = state::least(lent.work, work);
-    let s = state::least(lent.store, store);
-    let l = state::least(lent.log, log);
-    let numbers = at.numbers;
-    let a = handed::checkpoint(numbers, &work[..w], &store[..s], &mut log[..l], clear == 1);
-    output::replied(to, at, a)
+
+    // Begin order.
+    pub fn begin_order(&mut self) -> Result<(), Stop> {
+        let a = handed::begin_order(self.numbers, self.work.lent(), self.log.lent_mut());
+        self.reply(a)
+    }
+
+    // Step.
+    pub fn step(&mut self) -> Result<(), Stop> {
+        let a = handed::step(self.numbers, self.work.lent_mut(), self.log.lent_mut());
+        self.reply(a)
+    }
+
+    // Flush, of a page.
+    pub fn flush(&mut self) -> Result<(), Stop> {
+        let p = self.input.number()?;
+        let a = handed::flush(
+            self.numbers,
+            self.work.lent(),
+            self.store.lent_mut(),
+            self.log.lent(),
+            p,
+        );
+        self.reply(a)
+    }
+
+    // Force.
+    pub fn force(&mut self) -> Result<(), Stop> {
+        let a = handed::force(self.numbers, self.log.lent());
+        self.reply(a)
+    }
+
+    // Checkpoint; 1 clears LK and 0 keeps it.
+    pub fn checkpoint(&mut self) -> Result<(), Stop> {
+        let clear = self.input.flag()?;
+        let a = handed::checkpoint(
+            self.numbers,
+            self.work.lent(),
+            self.store.lent(),
+            self.log.lent_mut(),
+            clear,
+        );
+        self.reply(a)
+    }
 }

@@ -1,60 +1,60 @@
-// Reading the script: each function answers what stands next, or that the script is cut short there. A read that fails is an error.
+// Reading the script, and why it stops before its end.
 use intake::read_full;
 use std::io;
 use std::io::Read;
 
-#[derive(Clone, Copy)]
-pub enum Byte {
-    Is(u8),
-    Short,
+// Why a script stops.
+#[derive(Drop)]
+pub enum Stop {
+    // At a command that is unknown, cut short or out of its limits.
+    Script,
+    // At a read or a write that failed.
+    Io(io::Error),
 }
 
-#[derive(Clone, Copy)]
-pub enum Number {
-    Is(u32),
-    Short,
-}
-
-#[derive(Clone, Copy)]
-pub enum Three {
-    Are(u32, u32, u32),
-    Short,
-}
-
-// The next byte.
-pub fn next_byte(from: &mut impl Read) -> io::Result<Byte> {
-    let mut b = [0u8; 1];
-    if read_full(from, &mut b)? < 1 {
-        return Ok(Byte::Short);
+impl From<io::Error> for Stop {
+    fn from(e: io::Error) -> Stop {
+        Stop::Io(e)
     }
-    Ok(Byte::Is(b[0]))
 }
 
-// The next number, of four bytes.
-pub fn next_number(from: &mut impl Read) -> io::Result<Number> {
-    let mut b = [0u8; 4];
-    if read_full(from, &mut b)? < 4 {
-        return Ok(Number::Short);
+// The script, from what comes next on.
+#[derive(Drop)]
+pub struct Input<R> {
+    pub from: R,
+}
+
+impl<R: Read> Input<R> {
+    // The letter of the next command; none at the script's end.
+    pub fn letter(&mut self) -> io::Result<Option<u8>> {
+        let mut bytes = [0u8; 1];
+        let n = read_full(&mut self.from, &mut bytes)?;
+        Ok(if n == 1 { Some(bytes[0]) } else { None })
     }
-    Ok(Number::Is(field::num4(b[0], b[1], b[2], b[3])))
-}
 
-// The next three numbers.
-pub fn next_three(from: &mut impl Read) -> io::Result<Three> {
-    let Number::Is(x) = next_number(from)? else {
-        return Ok(Three::Short);
-    };
-    let Number::Is(y) = next_number(from)? else {
-        return Ok(Three::Short);
-    };
-    let Number::Is(z) = next_number(from)? else {
-        return Ok(Three::Short);
-    };
-    Ok(Three::Are(x, y, z))
-}
+    // Fills the buffer with the next bytes.
+    pub fn fill(&mut self, buffer: &mut [u8]) -> Result<(), Stop> {
+        if read_full(&mut self.from, buffer)? < buffer.len() {
+            return Err(Stop::Script);
+        }
+        Ok(())
+    }
 
-// Fills the buffer with the next bytes; false where there are fewer.
-pub fn next_bytes(from: &mut impl Read, buffer: &mut [u8]) -> io::Result<bool> {
-    let n = read_full(from, buffer)?;
-    Ok(n == buffer.len())
+    // The next byte, 0 or 1.
+    pub fn flag(&mut self) -> Result<bool, Stop> {
+        let mut bytes = [0u8; 1];
+        self.fill(&mut bytes)?;
+        match bytes {
+            [0] => Ok(false),
+            [1] => Ok(true),
+            _ => Err(Stop::Script),
+        }
+    }
+
+    // The next number, of four bytes.
+    pub fn number(&mut self) -> Result<u32, Stop> {
+        let mut bytes = [0u8; 4];
+        self.fill(&mut bytes)?;
+        Ok(u32::from_le_bytes(bytes))
+    }
 }

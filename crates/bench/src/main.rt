@@ -22,6 +22,7 @@
 // commands ends the program. A command that is unknown, cut short or out of these limits writes one byte 255 and ends it.
 #![tactic(auto)]
 
+mod buffer;
 mod build;
 mod change;
 mod input;
@@ -31,70 +32,9 @@ mod save;
 mod setting;
 mod state;
 
-use input::Byte;
-use state::State;
+use state::Bench;
 use std::io;
-use std::io::{Read, Write};
 
-// Carries out the script's next command.
-fn turn(
-    from: &mut impl Read,
-    to: &mut impl Write,
-    at: State,
-    work: &mut [u8],
-    store: &mut [u8],
-    log: &mut [u8],
-    room: &mut [u8],
-) -> io::Result<State> {
-    let Byte::Is(letter) = input::next_byte(from)? else {
-        return Ok(state::ended(at));
-    };
-    match letter {
-        b'w' => setting::pages(from, to, at, work),
-        b's' => setting::pages(from, to, at, store),
-        b'g' => setting::log(from, to, at, log),
-        b'n' => setting::numbers(from, to, at),
-        b'z' => setting::lengths(from, to, at),
-        b'D' => reading::dump(to, at, work, store, log),
-        b'B' => build::build(from, to, at, work, store, log, room),
-        b'G' => reading::find(from, to, at, work, log),
-        b'L' => reading::list(from, to, at, work, log, room),
-        b'W' => reading::walk(from, to, at, work, room),
-        b'U' => save::put(from, to, at, work, log, room),
-        b'X' => save::delete(from, to, at, work, log),
-        _ => change::turn(from, to, at, letter, work, store, log),
-    }
-}
-
-// Carries out the whole script. A proved loop has to end, and nothing says that a script does: so the turns are counted, up to a number
-// that no script uses up.
-fn serve(
-    from: &mut impl Read,
-    to: &mut impl Write,
-    work: &mut [u8],
-    store: &mut [u8],
-    log: &mut [u8],
-    room: &mut [u8],
-) -> io::Result<()> {
-    let mut at = state::start();
-    for _ in 0..u64::MAX {
-        if !at.on {
-            break;
-        }
-        at = turn(from, to, at, work, store, log, room)?;
-    }
-    Ok(())
-}
-
-// The buffers, the first three with one byte past their right lengths.
 fn main(rt: HostRuntime) -> io::Result<()> {
-    let mut work = [0u8; 16385];
-    let mut store = [0u8; 16385];
-    let mut log = [0u8; 8193];
-    let mut room = [0u8; 16384];
-    let mut from = rt.stdin();
-    let mut to = rt.stdout();
-    serve(
-        &mut from, &mut to, &mut work, &mut store, &mut log, &mut room,
-    )
+    Bench::new(rt.stdin(), rt.stdout()).run()
 }

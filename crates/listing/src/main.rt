@@ -9,41 +9,39 @@ use intake::read_full;
 use std::io;
 use std::io::{Read, Write};
 use store::Numbers;
+use text::Totals;
 
-// Recovers into the work pages and prints.
-fn list(to: &mut impl Write, work: &mut [u8], store: &[u8], log: &mut [u8]) -> io::Result<()> {
+// Recovers into work pages of its own and prints.
+fn list(to: &mut impl Write, store: &[u8; 16384], log: &mut [u8; 8192]) -> io::Result<()> {
+    let mut work = [0u8; 16384];
     let numbers = Numbers { used: 0, forced: 0 };
-    let answer = recovering::recover(numbers, work, store, log);
-    let recovered = answer.recovered;
-    if recovered.reply != 0 {
-        return text::refused(to, recovered.reply);
+    let reply = recovering::recover(numbers, &mut work, store, log)
+        .recovered
+        .reply;
+    if reply != 0 {
+        return writeln!(to, "refused {reply}");
     }
-    text::header(to)?;
-    let seen = walk::root(to, work)?;
-    text::totals(to, seen.records)
+    writeln!(to, "leaf page base count first last number")?;
+    let records = walk::leaves(to, &work)?;
+    writeln!(to, "{}", Totals(records))
 }
 
 // Whether the input has just as many bytes as the two buffers, which are filled with them.
 fn read(from: &mut impl Read, store: &mut [u8], log: &mut [u8]) -> io::Result<bool> {
-    let mut past = [0u8; 1];
-    if read_full(from, store)? < store.len() {
-        return Ok(false);
-    }
-    if read_full(from, log)? < log.len() {
-        return Ok(false);
-    }
-    Ok(read_full(from, &mut past)? == 0)
+    Ok(
+        read_full(from, store)? == store.len()
+            && read_full(from, log)? == log.len()
+            && read_full(from, &mut [0u8; 1])? == 0,
+    )
 }
 
 fn main(rt: HostRuntime) -> io::Result<()> {
-    let mut work = [0u8; 16384];
     let mut store = [0u8; 16384];
     let mut log = [0u8; 8192];
-    let mut from = rt.stdin();
     let mut to = rt.stdout();
-    if read(&mut from, &mut store, &mut log)? {
-        list(&mut to, &mut work, &store, &mut log)
+    if read(&mut rt.stdin(), &mut store, &mut log)? {
+        list(&mut to, &store, &mut log)
     } else {
-        text::refused(&mut to, 1)
+        writeln!(to, "refused 1")
     }
 }

@@ -1,139 +1,126 @@
 // The walk over the work pages, from the root by its entries and those of the base pages to the leaves, in key order. Recovery has found
 // the tree well formed; nothing here depends on it. A page number, a count or a number of leaves that no tree has ends the walk.
-use crate::text;
+ghost use Rattle.std.specs.Prelude.{◌≤◌, ◌*◌, IfOk};
+ghost use Rattle.page.specs.Page.{count};
+
 use crate::text::Line;
 use page::view;
 use std::io;
 use std::io::Write;
 
-// How many leaves and records have been passed, and whether the walk goes on.
+// Why the walk ends before the last leaf.
 #[derive(Drop)]
-pub struct Seen {
-    pub leaves: u32,
-    pub records: u32,
-    pub on: bool,
+enum Stop {
+    // By what no tree has.
+    Tree,
+    // By a write that failed.
+    Io(io::Error),
 }
 
-// Prints all leaves.
-pub fn root(to: &mut impl Write, work: &[u8]) -> io::Result<Seen> {
-    let mut seen = Seen {
+impl From<io::Error> for Stop {
+    fn from(e: io::Error) -> Stop {
+        Stop::Io(e)
+    }
+}
+
+// How many leaves and records have been passed: a store has at most 56 leaves, and each at most 15 records.
+#[derive(Drop)]
+struct Passed {
+    leaves: u32,
+    records: u32,
+    ghost few: { leaves ≤ 56 },
+    ghost each: { records ≤ 15 * leaves },
+}
+
+impl Passed {
+    // One leaf more, with n records.
+    fn pass(&mut self, n: u16) -> Result<(), Stop>
+        requires { n ≤ 15 }
+    {
+        if self.leaves >= 56 {
+            return Err(Stop::Tree);
+        }
+        self.leaves += 1;
+        self.records += n as u32;
+        Ok(())
+    }
+}
+
+// Where the lines go, the pages, and what has been passed.
+#[derive(Drop)]
+struct Walk<'a, W> {
+    to: &'a mut W,
+    pages: &'a [[u8; 256]],
+    passed: Passed,
+}
+
+// Prints all leaves; how many records they hold.
+pub fn leaves(to: &mut impl Write, work: &[u8; 16384]) -> io::Result<u32> {
+    let (pages, _) = work.as_chunks::<256>();
+    let passed = Passed {
         leaves: 0,
         records: 0,
-        on: true,
     };
-    let n = entries(work, 0);
-    let mut i = 0;
-    while i < n && seen.on {
-        seen = base(to, work, entry(work, 0, i), seen)?;
-        i += 1;
-    }
-    Ok(seen)
-}
-
-// Prints the leaves under base page p.
-fn base(to: &mut impl Write, work: &[u8], p: u16, before: Seen) -> io::Result<Seen> {
-    let mut seen = before;
-    let n = entries(work, p);
-    if n == 0 {
-        return Ok(stopped(seen));
-    }
-    let mut i = 0;
-    while i < n && seen.on {
-        seen = leaf(to, work, p, entry(work, p, i), seen)?;
-        i += 1;
-    }
-    Ok(seen)
-}
-
-// Prints leaf page p.
-fn leaf(to: &mut impl Write, work: &[u8], base: u16, p: u16, seen: Seen) -> io::Result<Seen> {
-    let pg = page_of(work, p);
-    if pg.len() != 256 {
-        return Ok(stopped(seen));
-    }
-    let n = view::count(pg);
-    if n == 0 {
-        return Ok(stopped(seen));
-    }
-    if n > 15 {
-        return Ok(stopped(seen));
-    }
-    let first = view::row_key(pg, 16, 0);
-    let last = view::row_key(pg, 16, n as usize - 1);
-    let stamp = view::number(pg);
-    let line = Line {
-        order: seen.leaves,
-        page: p,
-        base,
-        count: n,
-        first,
-        last,
-        number: stamp.0,
-    };
-    text::leaf(to, line)?;
-    Ok(passed(seen, n as u32))
-}
-
-// The entries of page p, at most 30; none where there is no such page.
-fn entries(work: &[u8], p: u16) -> u16 {
-    let pg = page_of(work, p);
-    if pg.len() != 256 {
-        return 0;
-    }
-    let n = view::count(pg);
-    if n > 30 {
-        return 0;
-    }
-    n
-}
-
-// The page that entry i of page p points to; 64, which is no page, where there is no such entry.
-fn entry(work: &[u8], p: u16, i: u16) -> u16 {
-    let pg = page_of(work, p);
-    if pg.len() != 256 {
-        return 64;
-    }
-    if i >= view::count(pg) {
-        return 64;
-    }
-    if i >= 30 {
-        return 64;
-    }
-    view::entry_page(pg, i as usize)
-}
-
-// The bytes of page p; none where there is no such page.
-fn page_of(work: &[u8], p: u16) -> &[u8] {
-    let at = 256 * (p as usize);
-    if at + 256 > work.len() {
-        return &work[..0];
-    }
-    &work[at..at + 256]
-}
-
-// One leaf more, with n records. A store has at most 56 leaves, and each at most 15 records.
-fn passed(seen: Seen, n: u32) -> Seen {
-    if seen.leaves >= 56 {
-        return stopped(seen);
-    }
-    if n > 15 {
-        return stopped(seen);
-    }
-    if seen.records > 840 {
-        return stopped(seen);
-    }
-    Seen {
-        leaves: seen.leaves + 1,
-        records: seen.records + n,
-        on: true,
+    let mut walk = Walk { to, pages, passed };
+    match walk.root() {
+        Err(Stop::Io(e)) => Err(e),
+        _ => Ok(walk.passed.records),
     }
 }
 
-// The same, and the walk ends.
-fn stopped(seen: Seen) -> Seen {
-    Seen {
-        leaves: seen.leaves,
-        records: seen.records,
-        on: false,
+impl<'a, W: Write> Walk<'a, W> {
+    // Prints the leaves under the root.
+    fn root(&mut self) -> Result<(), Stop> {
+        let root = self.page(0)?;
+        for i in 0..entries(root)? {
+            self.base(view::entry_page(root, i))?;
+        }
+        Ok(())
     }
+
+    // Prints the leaves under base page p.
+    fn base(&mut self, p: u16) -> Result<(), Stop> {
+        let base = self.page(p)?;
+        for i in 0..entries(base)? {
+            self.leaf(p, view::entry_page(base, i))?;
+        }
+        Ok(())
+    }
+
+    // Prints leaf page p.
+    fn leaf(&mut self, base: u16, p: u16) -> Result<(), Stop> {
+        let leaf = self.page(p)?;
+        let n = view::count(leaf);
+        if n == 0 || n > 15 {
+            return Err(Stop::Tree);
+        }
+        let line = Line {
+            order: self.passed.leaves,
+            page: p,
+            base,
+            count: n,
+            first: view::row_key(leaf, 16, 0),
+            last: view::row_key(leaf, 16, n as usize - 1),
+            number: view::number(leaf).0,
+        };
+        writeln!(self.to, "{line}")?;
+        self.passed.pass(n)
+    }
+
+    // Page p.
+    fn page(&self, p: u16) -> Result<&'a [u8; 256], Stop> {
+        self.pages.get(p as usize).ok_or(Stop::Tree)
+    }
+}
+
+// How many entries the root or a base page has: 1 to 30.
+fn entries(page: &[u8; 256]) -> Result<usize, Stop>
+    ensures few { IfOk result (λ n. n ≤ 30) }
+    ensures there { IfOk result (λ n. n ≤ count page.now) }
+{
+    let n = view::count(page);
+    if n == 0 || n > 30 {
+        return Err(Stop::Tree);
+    }
+    Ok(n as usize)
 }

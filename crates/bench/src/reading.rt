@@ -1,5 +1,5 @@
 // The dump, and the calls that change no buffer of the store: find, list and the range reader.
-ghost use Rattle.std.specs.Prelude.{◌≤◌, length};
+ghost use Rattle.std.specs.Prelude.{◌*◌, ◌≤◌, length};
 
 use crate::input::Stop;
 use crate::state::Bench;
@@ -56,6 +56,7 @@ impl<R: Read, W: Write> Bench<R, W> {
 // Takes records from this position on while they fit whole; how many.
 fn take(work: &[u8], from: Place, room: &mut [u8]) -> u32
     requires { length room.old ≤ 16384 }
+    ensures { 16 * result ≤ length room.old }
 {
     let (records, _) = room.as_chunks_mut::<16>();
     let mut at = from;

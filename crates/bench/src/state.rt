@@ -6,10 +6,10 @@ use std::io::{Read, Write};
 use store::Numbers;
 
 // The right length of the work and the store pages.
-pub const PAGES: usize = 16384;
+const PAGES: usize = 16384;
 
 // The right length of the log.
-pub const LOG: usize = 8192;
+const LOG: usize = 8192;
 
 // The script, where its answers go, the buffers and the numbers. The first three buffers have one byte past their right lengths; the room is
 // lent as each command says.
@@ -62,9 +62,9 @@ impl<R: Read, W: Write> Bench<R, W> {
     // Carries out the command with this letter.
     fn command(&mut self, letter: u8) -> Result<(), Stop> {
         match letter {
-            b'w' => self.set_work(),
-            b's' => self.set_store(),
-            b'g' => self.set_log(),
+            b'w' => self.input.fill(self.work.first_mut(PAGES)),
+            b's' => self.input.fill(self.store.first_mut(PAGES)),
+            b'g' => self.input.fill(self.log.first_mut(LOG)),
             b'n' => self.set_numbers(),
             b'z' => self.set_lengths(),
             b'B' => self.build(),

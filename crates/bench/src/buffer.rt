@@ -55,8 +55,7 @@ impl<const N: usize> Buffer<N> {
         ensures len { length result.now ≡ n }
         ensures first { result.now ≡ take n self.old.bytes }
     {
-        let bytes = &mut self.bytes;
-        let bytes = &mut bytes[..];
+        let bytes = self.bytes.as_mut_slice();
         &mut bytes[..n]
     }
 }

@@ -19,11 +19,16 @@ fn list(to: &mut impl Write, store: &[u8; 16384], log: &mut [u8; 8192]) -> io::R
         .recovered
         .reply;
     if reply != 0 {
-        return writeln!(to, "refused {reply}");
+        return refuse(to, reply);
     }
     writeln!(to, "leaf page base count first last number")?;
     let records = walk::leaves(to, &work)?;
     writeln!(to, "{}", Totals(records))
+}
+
+// Prints that the input is refused, with this reply.
+fn refuse(to: &mut impl Write, reply: u8) -> io::Result<()> {
+    writeln!(to, "refused {reply}")
 }
 
 // Whether the input has just as many bytes as the two buffers, which are filled with them.
@@ -42,6 +47,6 @@ fn main(rt: HostRuntime) -> io::Result<()> {
     if read(&mut rt.stdin(), &mut store, &mut log)? {
         list(&mut to, &store, &mut log)
     } else {
-        writeln!(to, "refused 1")
+        refuse(&mut to, 1)
     }
 }

@@ -26,7 +26,7 @@ fn list(to: &mut impl Write, store: &[u8; 16384], log: &mut [u8; 8192]) -> io::R
     writeln!(to, "{}", Totals(records))
 }
 
-// Prints that the input is refused, with this reply.
+// Prints that the input is refused, with this reply: a number that stood in the text would change how the line is cut into writes.
 fn refuse(to: &mut impl Write, reply: u8) -> io::Result<()> {
     writeln!(to, "refused {reply}")
 }
